@@ -1,0 +1,3 @@
+// Paths and routes of a plan.
+
+pub mod steps;

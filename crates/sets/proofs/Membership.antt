@@ -1,0 +1,46 @@
+-- Membership is 0 or 1, and 0 from 512 on.
+use mathlib.Core.Path.{_≡_, refl, ap, _∙_}
+use mathlib.Core.Bool.{false}
+use mathlib.Core.Logic.{⊎-elim}
+use mathlib.Core.List.{List}
+use Prim.Native.Nat.{ℕ, _/_, _%_, _<_, _≤_}
+use native.Mathlib.Omega.{arith}
+use lib.ListN.{getD, replicate, length}
+use Rattle.std.proofs.shelf.Lists.{getD-past, getD-replicate, length-replicate}
+use Rattle.std.proofs.shelf.Tests.{cases-lt, cases-eq, eq-eqb, ne-eqb, eqb-false}
+use lib.Dec.{eqb}
+use Rattle.sets.specs.declared.set.ComponentSet.{ComponentSet}
+use Rattle.sets.specs.Members.{has, bit, left}
+use Rattle.sets.proofs.Flipping.{bit-zero}
+
+pub has-low : (s : ComponentSet) (c : ℕ) → has s c ≤ 1
+unfolding has
+has-low s c = omega arith
+
+zeros : (n i : ℕ) → _≡_ {A = ℕ} (getD (replicate n 0) i 0) 0
+zeros n i =
+    ⊎-elim
+    (λ h. getD-replicate {A = ℕ} n i 0 0 h)
+    (λ h. getD-past {X = ℕ} (replicate n 0) i 0 (omega (arith, length-replicate {A = ℕ} n 0)))
+    (cases-lt i n)
+
+pub none-in : (s : ComponentSet) → s .words ≡ replicate 8 0 → (c : ℕ) → has s c ≡ 0
+unfolding has
+none-in s e c = ap (λ ws. bit (getD ws (c / 64) 0) (c % 64)) e ∙ ap (λ w. bit w (c % 64)) (zeros 8 (c / 64)) ∙ bit-zero (c % 64)
+
+pub has-past : (s : ComponentSet) (c : ℕ) → 512 ≤ c → has s c ≡ 0
+unfolding has
+has-past s c h =
+    let e = getD-past (s .words) (c / 64) 0 (omega (arith, s .eight)) in
+    ap (λ w. bit w (c % 64)) e ∙ bit-zero (c % 64)
+
+pub not-in : (s : ComponentSet) (c : ℕ) → eqb (has s c) 1 ≡ false → has s c ≡ 0
+not-in s c h = let low = has-low s c in let n = eqb-false (has s c) 1 h in omega arith
+
+-- what is not in the set is not taken out of it
+pub left-none : (s : ComponentSet) (old : ℕ) → has s old ≡ 0 → (c : ℕ) → has s c ≡ left s old c
+left-none s old h c =
+    ⊎-elim
+    (λ (e : c ≡ old). rw (eq-eqb c old e) (ap (has s) e ∙ h))
+    (λ (n : c ≡ old → ⊥). rw (ne-eqb c old n) refl)
+    (cases-eq c old)

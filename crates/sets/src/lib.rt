@@ -1,0 +1,3 @@
+// Sets of components, as bits in words.
+
+pub mod set;
