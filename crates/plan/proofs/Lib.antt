@@ -1,2 +1,3 @@
 pub mod Ports
 pub mod Blank
+pub mod Tellings

@@ -7,8 +7,8 @@ use native.Mathlib.Omega.{arith}
 use lib.ListN.{length, getD, take, length-append}
 use Rattle.std.proofs.shelf.Lists.{take-at, getD-at, take-append-le, getD-append-left, length-push, take-all, getD-push}
 use Rattle.std.proofs.shelf.Tests.{cases-lt}
-use Rattle.tree.specs.Order.{Before, Grown}
-use Rattle.tree.proofs.Lex.{Upto, Past, parts, past-upto, past-next, upto-raise}
+use Rattle.route.specs.Growth.{Grown}
+use Rattle.route.proofs.Lex.{Upto, Past, parts, past-upto, past-next, upto-raise}
 
 module _ (May : List ℕ → ℕ → Type 0) where
   pub grown-at : (q t : List ℕ) (e : ℕ) → Grown May (q ++ e ∷ t) → May q e

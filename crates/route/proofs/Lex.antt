@@ -1,11 +1,11 @@
--- The order of lists, and what an extension of a list comes before.
+-- The order of lists of entries, and where the extensions of a list stand in it.
 use mathlib.Core.Path.{_≡_, refl, sym, ap, _∙_, subst}
 use mathlib.Core.List.{List, [], _∷_, _++_}
 use mathlib.Core.Logic.{_⊎_, inl, inr, ⊎-elim}
 use Prim.Native.Nat.{ℕ, zero, suc, _+_, _<_, _≤_}
 use native.Mathlib.Omega.{arith}
 use Rattle.std.proofs.shelf.Tests.{cases-lt, cases-order}
-use Rattle.tree.specs.Order.{Before}
+use Rattle.route.specs.Order.{Before, StrictAndTotal}
 
 -- `a` is `b`, or comes before it
 abbrev pub Upto : List ℕ → List ℕ → Type 0
@@ -120,3 +120,6 @@ before-total (x ∷ xs) (y ∷ ys) =
     ⊎-elim (λ (k : xs ≡ ys). inl (cc)) (⊎-elim (λ b. inr (inl (inr (e, b)))) (λ b. inr (inr (inr (sym e, b))))) (before-total xs ys))
     (⊎-elim (λ l. inr (inl (inl l))) (λ l. inr (inr (inl l))))
     (cases-order x y)
+
+pub strict-and-total : StrictAndTotal
+strict-and-total = (before-irr, before-trans, before-total)

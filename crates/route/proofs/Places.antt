@@ -1,21 +1,21 @@
--- Paths, place by place.
+-- A path is a list that has grown, and is not empty.
 use mathlib.Core.Path.{_≡_, refl, sym, ap, _∙_, subst}
-use mathlib.Core.List.{List, [], _∷_, _++_}
-use Prim.Native.Nat.{ℕ, zero, suc, _+_, _-_, _/_, _<_, _≤_, suc-le-suc}
+use mathlib.Core.List.{List, [], _∷_}
+use Prim.Native.Nat.{ℕ, zero, suc, _+_, _-_, _/_, _<_, _≤_}
 use native.Mathlib.Omega.{arith}
 use native.Mathlib.Numerals.{add-one}
 use lib.ListN.{length, getD, take}
 use Rattle.std.proofs.shelf.Lists.{getD-take, length-take-le}
-use Rattle.plan.specs.declared.kinds.Way.{Way}
-use Rattle.plan.specs.Layout.{Layout, branch-way}
-use Rattle.routes.specs.Paths.{Starts, Follows, New, heading, end-of, May, Path}
-use Rattle.routes.specs.Plain.{Plain, Paths-are-plain}
+use Rattle.plan.specs.declared.parts.Direction.{Direction}
+use Rattle.plan.specs.Layout.{Layout, direction-of}
+use Rattle.route.specs.Paths.{Follows, heading, last-of, Path}
+use Rattle.route.specs.Growth.{New, May, Begun}
 
-may-out : (l : Layout) (q : List ℕ) (e : ℕ) → 0 < length q → May l q e → Follows l (heading l q) (end-of q) e × New q e
+may-out : (l : Layout) (q : List ℕ) (e : ℕ) → 0 < length q → May l q e → Follows l (heading l q) (last-of q) e × New q e
 may-out l [] e h m = absurd (omega arith)
 may-out l (s ∷ q) e h m = m
 
-may-in : (l : Layout) (q : List ℕ) (e : ℕ) → 0 < length q → Follows l (heading l q) (end-of q) e → New q e → May l q e
+pub may-in : (l : Layout) (q : List ℕ) (e : ℕ) → 0 < length q → Follows l (heading l q) (last-of q) e → New q e → May l q e
 may-in l [] e h m n = absurd (omega arith)
 may-in l (s ∷ q) e h m n = (m, n)
 
@@ -24,33 +24,34 @@ module _ (l : Layout) (es : List ℕ) (j : ℕ) (h : suc j < length es) where
   front-length = length-take-le (suc j) es (omega arith)
 
   front-heading : heading l (take (suc j) es) ≡ heading l es
-  front-heading = ap (λ x. branch-way (l .kind (x / 4))) (getD-take (suc j) es 0 0 (omega arith))
+  front-heading = ap (λ x. direction-of (l .kind (x / 4))) (getD-take (suc j) es 0 0 (omega arith))
 
-  front-end : end-of (take (suc j) es) ≡ getD es j 0
-  front-end =
+  front-last : last-of (take (suc j) es) ≡ getD es j 0
+  front-last =
       let e : length (take (suc j) es) - 1 ≡ j = omega (arith, front-length) in
       ap (λ n. getD (take (suc j) es) n 0) e ∙ getD-take (suc j) es j 0 (omega arith)
 
-  follows-here : Follows l (heading l (take (suc j) es)) (end-of (take (suc j) es)) (getD es (suc j) 0) → Follows l (heading l es) (getD es j 0) (getD es (suc j) 0)
-  follows-here m =
-      let F : Way → Type 0 = λ w. Follows l w (end-of (take (suc j) es)) (getD es (suc j) 0) in
-      let G : ℕ → Type 0 = λ x. Follows l (heading l es) x (getD es (suc j) 0) in
-      subst G front-end (subst F front-heading m)
+  -- what follows the front of the list follows the entry before it
+  follows-here : Follows l (heading l (take (suc j) es)) (last-of (take (suc j) es)) (getD es (suc j) 0) ≡ Follows l (heading l es) (getD es j 0) (getD es (suc j) 0)
+  follows-here =
+      ap (λ (w : Direction). Follows l w (last-of (take (suc j) es)) (getD es (suc j) 0)) front-heading
+      ∙ ap (λ (x : ℕ). Follows l (heading l es) x (getD es (suc j) 0)) front-last
 
-  follows-there : Follows l (heading l es) (getD es j 0) (getD es (suc j) 0) → Follows l (heading l (take (suc j) es)) (end-of (take (suc j) es)) (getD es (suc j) 0)
-  follows-there m =
-      let F : Way → Type 0 = λ w. Follows l w (end-of (take (suc j) es)) (getD es (suc j) 0) in
-      let G : ℕ → Type 0 = λ x. Follows l (heading l es) x (getD es (suc j) 0) in
-      subst F (sym front-heading) (subst G (sym front-end) m)
-
-  step-out : Path l es → Follows l (heading l es) (getD es j 0) (getD es (suc j) 0) × New (take (suc j) es) (getD es (suc j) 0)
+  step-out : Begun l es → Follows l (heading l es) (getD es j 0) (getD es (suc j) 0) × New (take (suc j) es) (getD es (suc j) 0)
   step-out g =
       let m = may-out l (take (suc j) es) (getD es (suc j) 0) (omega (arith, front-length)) (g (suc j) h) in
-      (follows-here (m .0), m .1)
+      let F : Type 0 → Type 0 = λ T. T in
+      (subst F follows-here (m .0), m .1)
 
-plain-out : (l : Layout) (es : List ℕ) → Path l es → Plain l es
-plain-out l es g = record {
-  begins = λ h. g 0 h;
+  step-in : Follows l (heading l es) (getD es j 0) (getD es (suc j) 0) → New (take (suc j) es) (getD es (suc j) 0) → May l (take (suc j) es) (getD es (suc j) 0)
+  step-in f n =
+      let F : Type 0 → Type 0 = λ T. T in
+      may-in l (take (suc j) es) (getD es (suc j) 0) (omega (arith, front-length)) (subst F (sym follows-here) f) n
+
+pub path-of : (l : Layout) (es : List ℕ) → 0 < length es → Begun l es → Path l es
+path-of l es some g = record {
+  some = some;
+  starts = g 0 some;
   follows = λ i h.
       let F : ℕ → Type 0 = λ n. Follows l (heading l es) (getD es i 0) (getD es n 0) in
       subst F (sym (add-one i)) (step-out l es i (omega arith) g .0);
@@ -63,15 +64,12 @@ plain-out l es g = record {
       ];
 }
 
-plain-in : (l : Layout) (es : List ℕ) → Plain l es → Path l es
-plain-in l es p zero h = p .begins h
-plain-in l es p (suc j) h =
+pub path-begun : (l : Layout) (es : List ℕ) → Path l es → Begun l es
+path-begun l es p zero h = p .starts
+path-begun l es p (suc j) h =
     let F : ℕ → Type 0 = λ n. Follows l (heading l es) (getD es j 0) (getD es n 0) in
-    may-in l (take (suc j) es) (getD es (suc j) 0) (omega (arith, front-length l es j h))
-    (follows-there l es j h (subst F (add-one j) (p .follows j (omega arith))))
+    step-in l es j h
+    (subst F (add-one j) (p .follows j (omega arith)))
     (λ k i e.
     let s : k < suc j = omega (arith, front-length l es j h) in
     p .apart k (suc j) s h (ap (λ x. x / 4) (sym (getD-take (suc j) es k 0 s)) ∙ e))
-
-pub paths-are-plain : Paths-are-plain
-paths-are-plain l es = (plain-out l es, plain-in l es)

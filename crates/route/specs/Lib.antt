@@ -1,2 +1,4 @@
 pub mod Order
 pub mod Paths
+pub mod Growth
+pub mod Steps

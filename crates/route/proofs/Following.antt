@@ -1,0 +1,56 @@
+-- Which entries follow an entry.
+use mathlib.Core.Path.{_≡_, refl, sym, ap, _∙_, subst}
+use Prim.Native.Nat.{ℕ, _+_, _*_, _/_, _%_, _<_, _≤_}
+use native.Mathlib.Omega.{arith}
+use Rattle.std.specs.declared.option.Option.{Option}
+use Rattle.std.specs.declared.option.Option.the-variants.{Some, None}
+use Rattle.plan.specs.declared.parts.Direction.{Direction}
+use Rattle.plan.specs.declared.parts.Kind.{Kind}
+use Rattle.plan.specs.declared.parts.Port.{Port}
+use Rattle.plan.specs.Layout.{Layout, Lawful}
+use Rattle.plan.proofs.Ports.{port-below, far-below}
+use Rattle.route.specs.declared.steps.Range.{Range}
+use Rattle.route.specs.Paths.{exit-of, MayLie, Enters, Follows}
+use Rattle.route.specs.Steps.{Exactly}
+
+entered : (l : Layout) (o : Option Port) (e : ℕ) → Enters l o e → (p : Port) × (o ≡ Some p)
+entered l None e h = absurd h
+entered l (Some p) e h = (p, refl)
+
+no-port : (o : Option Port) → ((q : Port) → o ≡ Some q → ⊥) → o ≡ None
+no-port None h = refl
+no-port (Some q) h = absurd (h q refl)
+
+-- only a component of the layout is followed, and only by one
+pub follows-from : (l : Layout) → Lawful l → (d : Direction) (e e′ : ℕ) → Follows l d e e′ → e / 4 < l .count
+follows-from l w d e e′ h =
+    let p = entered l (l .far (exit-of l d e)) e′ h in
+    port-below l (exit-of l d e) (w .ports (exit-of l d e) (p .0) (p .1))
+
+pub follows-to : (l : Layout) → Lawful l → (d : Direction) (e e′ : ℕ) → Follows l d e e′ → e′ / 4 < l .count
+follows-to l w d e e′ h =
+    let p = entered l (l .far (exit-of l d e)) e′ h in
+    let E : Option Port → Type 0 = λ o. Enters l o e′ in
+    let c : e′ / 4 ≡ p .0 .component = subst E (p .1) h .0 in
+    let b = far-below l w (exit-of l d e) (p .0) (p .1) in
+    omega arith
+
+-- nothing lies beyond a component that the layout lacks
+pub none-beyond : (l : Layout) → Lawful l → (p : Port) → l .count ≤ p .component → l .far p ≡ None
+none-beyond l w p h = no-port (l .far p) (λ q e. let b = port-below l p (w .ports p q e) in omega arith)
+
+pub follows-exactly : (l : Layout) (d : Direction) (e : ℕ) (p : Port) (k : Kind) (x : Range) → l .far (exit-of l d e) ≡ Some p → k ≡ l .kind (p .component) → Exactly (MayLie k (p .side)) x → x .high ≤ 2 → Exactly (Follows l d e) (record { low = 4 * p .component + x .low; high = 4 * p .component + x .high })
+follows-exactly l d e p k x far kind exact small =
+    let E : ℕ → Option Port → Type 0 = λ e′ o. Enters l o e′ in
+    let M : ℕ → Kind → Type 0 = λ z q. MayLie q (p .side) z in
+    record {
+      inside = λ e′ low high.
+          subst (E e′) (sym far) (omega arith, subst (M (e′ % 4)) kind (exact .inside (e′ % 4) (omega arith) (omega arith)));
+      outside = λ e′ h.
+          let s = subst (E e′) far h in
+          let c = s .0 in
+          let z = exact .outside (e′ % 4) (subst (M (e′ % 4)) (sym kind) (s .1)) in
+          let low = z .0 in
+          let high = z .1 in
+          (omega arith, omega arith);
+    }

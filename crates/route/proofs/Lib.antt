@@ -1,0 +1,4 @@
+pub mod Lex
+pub mod Growth
+pub mod Places
+pub mod Following
