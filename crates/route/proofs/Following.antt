@@ -21,7 +21,7 @@ no-port : (o : Option Port) → ((q : Port) → o ≡ Some q → ⊥) → o ≡ 
 no-port None h = refl
 no-port (Some q) h = absurd (h q refl)
 
--- only a component of the layout is followed, and only by one
+-- only a component of the layout is followed, and only by one of the layout
 pub follows-from : (l : Layout) → Lawful l → (d : Direction) (e e′ : ℕ) → Follows l d e e′ → e / 4 < l .count
 follows-from l w d e e′ h =
     let p = entered l (l .far (exit-of l d e)) e′ h in
@@ -35,6 +35,13 @@ follows-to l w d e e′ h =
     let b = far-below l w (exit-of l d e) (p .0) (p .1) in
     omega arith
 
+enters-one : (l : Layout) (o : Option Port) (e e′ : ℕ) → Enters l o e → Enters l o e′ → e / 4 ≡ e′ / 4
+enters-one l None e e′ h h′ = absurd h
+enters-one l (Some p) e e′ h h′ = h .0 ∙ sym (h′ .0)
+
+pub follows-one : (l : Layout) (d : Direction) (x e e′ : ℕ) → Follows l d x e → Follows l d x e′ → e / 4 ≡ e′ / 4
+follows-one l d x e e′ = enters-one l (l .far (exit-of l d x)) e e′
+
 -- nothing lies beyond a component that the layout lacks
 pub none-beyond : (l : Layout) → Lawful l → (p : Port) → l .count ≤ p .component → l .far p ≡ None
 none-beyond l w p h = no-port (l .far p) (λ q e. let b = port-below l p (w .ports p q e) in omega arith)
@@ -43,7 +50,9 @@ pub follows-exactly : (l : Layout) (d : Direction) (e : ℕ) (p : Port) (k : Kin
 follows-exactly l d e p k x far kind exact small =
     let E : ℕ → Option Port → Type 0 = λ e′ o. Enters l o e′ in
     let M : ℕ → Kind → Type 0 = λ z q. MayLie q (p .side) z in
+    let some = exact .some in
     record {
+      some = omega arith;
       inside = λ e′ low high.
           subst (E e′) (sym far) (omega arith, subst (M (e′ % 4)) kind (exact .inside (e′ % 4) (omega arith) (omega arith)));
       outside = λ e′ h.

@@ -48,8 +48,8 @@ module _ (l : Layout) (es : List ℕ) (j : ℕ) (h : suc j < length es) where
       let F : Type 0 → Type 0 = λ T. T in
       may-in l (take (suc j) es) (getD es (suc j) 0) (omega (arith, front-length)) (subst F (sym follows-here) f) n
 
-pub path-of : (l : Layout) (es : List ℕ) → 0 < length es → Begun l es → Path l es
-path-of l es some g = record {
+pub begun-path : (l : Layout) (es : List ℕ) → 0 < length es → Begun l es → Path l es
+begun-path l es some g = record {
   some = some;
   starts = g 0 some;
   follows = λ i h.

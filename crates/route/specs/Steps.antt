@@ -9,8 +9,9 @@ use Rattle.plan.specs.Layout.{Layout}
 use Rattle.route.specs.declared.steps.Range.{Range}
 use Rattle.route.specs.Paths.{IsSignal}
 
--- exactly the numbers of the range satisfy P
+-- exactly the numbers of the range satisfy P, and there are some
 pub record Exactly (P : ℕ → Type 0) (r : Range) : Type 0 where
+  pub some : r .low ≤ r .high
   pub inside : (e : ℕ) → r .low ≤ e → e ≤ r .high → P e
   pub outside : (e : ℕ) → P e → (r .low ≤ e) × (e ≤ r .high)
 

@@ -45,7 +45,6 @@ fn leaves(kind: Kind, way: Direction, lie: u16) -> Side
 // How a component may lie that is entered by such a port.
 fn lies(kind: Kind, side: Side) -> Range
     ensures exact { λ r. ⌜ Exactly (MayLie kind side) r ⌝ }
-    ensures order { λ r. ⌜ r .low ≤ r .high ⌝ }
     ensures small { λ r. ⌜ r .high ≤ 2 ⌝ }
 {
     match (kind, side) {

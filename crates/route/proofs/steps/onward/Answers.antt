@@ -22,7 +22,7 @@ pub add-result : need.add-result
 add-result g c =
     let few = g .P·Plan .lawful (c .args .plan .now) .few in
     let below = kind-given (g .P·Plan .layout (c .args .plan .now)) _ _ (c .in-Ok .ensures tt) .0 in
-    let low = c .lies-lies .ensures .order in
+    let low = c .lies-lies .ensures .exact .some in
     let high = c .lies-lies .ensures .small in
     omega arith
 

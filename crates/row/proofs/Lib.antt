@@ -1,0 +1,4 @@
+mod Fronts
+pub mod Puts
+pub mod Rows
+mod Writes

@@ -1,0 +1,7 @@
+use mathlib.Core.Path.{_∙_, sym, ap}
+use Rattle.search.specs.Times.{times}
+use Rattle.search.proofs.Counts.{times-none}
+use Rattle.search.proofs.position.Position.new.Needs as need
+
+pub ghost-result : need.ghost-result
+ghost-result c = ((λ k. c .new-2 .ensures k ∙ sym (ap (times k) (c .new .ensures) ∙ times-none k)), tt)

@@ -1,0 +1,18 @@
+-- What a position holds, and how it grows.
+use mathlib.Core.Path.{_≡_}
+use mathlib.Core.Bool.{Bool, true, false}
+use mathlib.Core.List.{List, [], _∷_, _++_}
+use Prim.Native.Nat.{ℕ, _<_}
+use lib.ListN.{length}
+use Rattle.row.specs.View.{entries}
+use Rattle.route.specs.Growth.{New}
+use Rattle.search.specs.declared.position.Position.{Position}
+
+-- the entries of the path that a position holds
+abbrev pub path-of : Position → List ℕ
+path-of p = entries (p .path)
+
+-- one entry more, of a component that is new; or the entry has no place, and nothing moved
+abbrev pub Pushed : Position → ℕ → Position → Bool → Type 0
+Pushed p e q true = (path-of q ≡ path-of p ++ e ∷ []) × New (path-of p) e × (e < 2048)
+Pushed p e q false = (q ≡ p) × (New (path-of p) e → e < 2048 → length (path-of p) < 512 → ⊥)
