@@ -1,0 +1,4 @@
+pub mod Handing
+pub mod Shapes
+pub mod States
+pub mod Writing

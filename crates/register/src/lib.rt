@@ -1,0 +1,3 @@
+// The route register of a plan: its routes as rows, one a turn, in lexicographic order.
+
+pub mod registers;
