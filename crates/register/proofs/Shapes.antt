@@ -19,9 +19,10 @@ use Rattle.plan.specs.Layout.{Layout, Lawful, same-side}
 use Rattle.row.specs.Row.{entry-ok, is-entries}
 use Rattle.row.proofs.Rows.{ok-from}
 use Rattle.route.specs.Paths.{root, trailing, MayLie, Enters, exit-of, heading, last-of, Route}
-use Rattle.route.specs.Growth.{May, Begun}
+use Rattle.route.specs.Growth.{Next}
 use Rattle.route.proofs.Places.{path-begun}
-use Rattle.search.proofs.Nexts.{begun-below, begun-short}
+use Rattle.route.proofs.Ending.{begun-below}
+use Rattle.search.proofs.Nexts.{begun-short}
 
 trailing-low : (p : Side) → trailing p < 3
 trailing-low West = omega arith
@@ -41,9 +42,9 @@ enters-low : (l : Layout) (o : Option Port) (e : ℕ) → Enters l o e → e % 4
 enters-low l None e h = absurd h
 enters-low l (Some p) e h = lie-low (l .kind (p .component)) (p .side) (e % 4) (h .1)
 
-may-low : (l : Layout) (q : List ℕ) (e : ℕ) → May l q e → e % 4 < 3
-may-low l [] e m = omega (arith, m .0)
-may-low l (s ∷ q) e m = enters-low l (l .far (exit-of l (heading l (s ∷ q)) (last-of (s ∷ q)))) e (m .0)
+next-low : (l : Layout) (q : List ℕ) (e : ℕ) → Next l q e → e % 4 < 3
+next-low l [] e m = omega (arith, m .0)
+next-low l (s ∷ q) e m = enters-low l (l .far (exit-of l (heading l (s ∷ q)) (last-of (s ∷ q)))) e m
 
 and-true : (a b : Bool) → a ≡ true → b ≡ true → (a && b) ≡ true
 and-true a b h k = cc
@@ -57,4 +58,4 @@ route-entries l w r t =
     (and-true _ _ (le-leb (length r) 512 short)
     (ok-from r (λ i h.
     let b = begun-below l w r g i h in
-    and-true _ _ (lt-ltb (getD r i 0) 2048 (omega arith)) (lt-ltb (getD r i 0 % 4) 3 (may-low l (take i r) (getD r i 0) (g i h))))))
+    and-true _ _ (lt-ltb (getD r i 0) 2048 (omega arith)) (lt-ltb (getD r i 0 % 4) 3 (next-low l (take i r) (getD r i 0) (g i h .0))))))

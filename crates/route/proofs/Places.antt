@@ -9,15 +9,15 @@ use Rattle.std.proofs.shelf.Lists.{getD-take, length-take-le}
 use Rattle.plan.specs.declared.parts.Direction.{Direction}
 use Rattle.plan.specs.Layout.{Layout, direction-of}
 use Rattle.route.specs.Paths.{Follows, heading, last-of, Path}
-use Rattle.route.specs.Growth.{New, May, Begun}
+use Rattle.route.specs.Growth.{New, Next, May, Begun}
 
-may-out : (l : Layout) (q : List ℕ) (e : ℕ) → 0 < length q → May l q e → Follows l (heading l q) (last-of q) e × New q e
-may-out l [] e h m = absurd (omega arith)
-may-out l (s ∷ q) e h m = m
+next-out : (l : Layout) (q : List ℕ) (e : ℕ) → 0 < length q → Next l q e → Follows l (heading l q) (last-of q) e
+next-out l [] e h m = absurd (omega arith)
+next-out l (s ∷ q) e h m = m
 
-pub may-in : (l : Layout) (q : List ℕ) (e : ℕ) → 0 < length q → Follows l (heading l q) (last-of q) e → New q e → May l q e
-may-in l [] e h m n = absurd (omega arith)
-may-in l (s ∷ q) e h m n = (m, n)
+next-in : (l : Layout) (q : List ℕ) (e : ℕ) → 0 < length q → Follows l (heading l q) (last-of q) e → Next l q e
+next-in l [] e h m = absurd (omega arith)
+next-in l (s ∷ q) e h m = m
 
 module _ (l : Layout) (es : List ℕ) (j : ℕ) (h : suc j < length es) where
   front-length : length (take (suc j) es) ≡ suc j
@@ -39,19 +39,19 @@ module _ (l : Layout) (es : List ℕ) (j : ℕ) (h : suc j < length es) where
 
   step-out : Begun l es → Follows l (heading l es) (getD es j 0) (getD es (suc j) 0) × New (take (suc j) es) (getD es (suc j) 0)
   step-out g =
-      let m = may-out l (take (suc j) es) (getD es (suc j) 0) (omega (arith, front-length)) (g (suc j) h) in
+      let m = g (suc j) h in
       let F : Type 0 → Type 0 = λ T. T in
-      (subst F follows-here (m .0), m .1)
+      (subst F follows-here (next-out l (take (suc j) es) (getD es (suc j) 0) (omega (arith, front-length)) (m .0)), m .1)
 
   step-in : Follows l (heading l es) (getD es j 0) (getD es (suc j) 0) → New (take (suc j) es) (getD es (suc j) 0) → May l (take (suc j) es) (getD es (suc j) 0)
   step-in f n =
       let F : Type 0 → Type 0 = λ T. T in
-      may-in l (take (suc j) es) (getD es (suc j) 0) (omega (arith, front-length)) (subst F (sym follows-here) f) n
+      (next-in l (take (suc j) es) (getD es (suc j) 0) (omega (arith, front-length)) (subst F (sym follows-here) f), n)
 
 pub begun-path : (l : Layout) (es : List ℕ) → 0 < length es → Begun l es → Path l es
 begun-path l es some g = record {
   some = some;
-  starts = g 0 some;
+  starts = g 0 some .0;
   follows = λ i h.
       let F : ℕ → Type 0 = λ n. Follows l (heading l es) (getD es i 0) (getD es n 0) in
       subst F (sym (add-one i)) (step-out l es i (omega arith) g .0);
@@ -65,7 +65,7 @@ begun-path l es some g = record {
 }
 
 pub path-begun : (l : Layout) (es : List ℕ) → Path l es → Begun l es
-path-begun l es p zero h = p .starts
+path-begun l es p zero h = (p .starts, λ k i. absurd (omega arith))
 path-begun l es p (suc j) h =
     let F : ℕ → Type 0 = λ n. Follows l (heading l es) (getD es j 0) (getD es n 0) in
     step-in l es j h

@@ -14,10 +14,14 @@ Grown May es = (i : ℕ) → i < length es → May (take i es) (getD es i 0)
 abbrev pub New : List ℕ → ℕ → Type 0
 New q e = (k : ℕ) → k < length q → getD q k 0 / 4 ≡ e / 4 → ⊥
 
+-- the entry may come next after the entries, leaving aside whether its component is new
+abbrev pub Next : Layout → List ℕ → ℕ → Type 0
+Next l [] e = Starts l e
+Next l (s ∷ q) e = Follows l (heading l (s ∷ q)) (last-of (s ∷ q)) e
+
 -- the entry `e` may stand after the entries `q`
 abbrev pub May : Layout → List ℕ → ℕ → Type 0
-May l [] e = Starts l e
-May l (s ∷ q) e = Follows l (heading l (s ∷ q)) (last-of (s ∷ q)) e × New (s ∷ q) e
+May l q e = Next l q e × New q e
 
 -- the empty list, or a path
 abbrev pub Begun : Layout → List ℕ → Type 0

@@ -1,3 +1,4 @@
 // Paths and routes of a plan.
 
+pub mod ends;
 pub mod steps;

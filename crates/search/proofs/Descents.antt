@@ -6,10 +6,10 @@ use Prim.Native.Nat.{ℕ, _≤_}
 use Rattle.std.specs.declared.option.Option.{Option}
 use Rattle.std.specs.declared.option.Option.the-variants.{Some, None}
 use Rattle.plan.specs.Layout.{Layout, Lawful}
-use Rattle.route.specs.Growth.{Begun}
+use Rattle.route.specs.Growth.{Begun, Next}
 use Rattle.search.specs.declared.position.Position.{Position}
 use Rattle.search.specs.View.{path-of, Pushed}
-use Rattle.search.specs.Found.{Least, Next, Descended}
+use Rattle.search.specs.Found.{Least, Descended}
 use Rattle.search.proofs.Nexts.{least-may, least-full, least-none}
 
 -- `s` is what a slice showed of the position's path

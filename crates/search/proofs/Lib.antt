@@ -1,4 +1,3 @@
-pub mod Counts
 pub mod Ties
 pub mod Heights
 pub mod Pigeons

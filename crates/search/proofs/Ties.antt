@@ -10,8 +10,8 @@ use Rattle.std.proofs.shelf.Tests.{cases-eq, eq-eqb, ne-eqb, lt-ltb}
 use Rattle.sets.specs.declared.set.ComponentSet.{ComponentSet}
 use Rattle.sets.specs.Members.{has, joined, left}
 use Rattle.sets.proofs.Membership.{has-low}
-use Rattle.search.specs.Times.{times}
-use Rattle.search.proofs.Counts.{times-push, one-of, one-here, one-else}
+use Rattle.route.specs.Components.{times}
+use Rattle.route.proofs.Counts.{times-push, one-of, one-here, one-else}
 
 abbrev Tied : ComponentSet → List ℕ → Type 0
 Tied s q = (c : ℕ) → has s c ≡ times c q

@@ -9,8 +9,8 @@ use Rattle.std.specs.declared.option.Option.{Option}
 use Rattle.std.specs.declared.option.Option.the-variants.{Some, None}
 use Rattle.plan.specs.Layout.{Layout}
 use Rattle.route.specs.Order.{Before}
-use Rattle.route.specs.Paths.{Starts, Follows, heading, last-of, Route}
-use Rattle.route.specs.Growth.{New, May, Begun}
+use Rattle.route.specs.Paths.{Route}
+use Rattle.route.specs.Growth.{May, Begun}
 use Rattle.search.specs.declared.position.Position.{Position}
 use Rattle.search.specs.View.{path-of}
 
@@ -23,11 +23,6 @@ Found l p q false = (q ≡ []) × ((r : List ℕ) → Route l r → Before p r �
 abbrev pub Least : (ℕ → Type 0) → ℕ → Option ℕ → Type 0
 Least P f None = (e : ℕ) → P e → e < f
 Least P f (Some e) = P e × (f ≤ e) × ((e′ : ℕ) → P e′ → f ≤ e′ → e ≤ e′)
-
--- the entry may come next after the entries, leaving aside whether its component is new
-abbrev pub Next : Layout → List ℕ → ℕ → Type 0
-Next l [] e = Starts l e
-Next l (s ∷ q) e = Follows l (heading l (s ∷ q)) (last-of (s ∷ q)) e
 
 -- one entry more on the path, the least from `f` on that may stand there; or there is none, and nothing moved
 abbrev pub Descended : Layout → ℕ → Position → Position → Bool → Type 0

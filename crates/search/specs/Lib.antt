@@ -1,3 +1,2 @@
-pub mod Times
 pub mod View
 pub mod Found

@@ -1,8 +1,8 @@
 ghost use Prim.Native.Nat.{ℕ, _≤_};
 ghost use Rattle.std.specs.Options.{Cases as BySome};
-ghost use Rattle.route.specs.Growth.{Begun};
+ghost use Rattle.route.specs.Growth.{Begun, Next};
 ghost use Rattle.route.specs.Paths.{Starts, Follows};
-ghost use Rattle.search.specs.Found.{Least, Next, Descended};
+ghost use Rattle.search.specs.Found.{Least, Descended};
 use crate::position::Position;
 use plan::interface::Plan;
 use plan::parts::Direction;

@@ -2,7 +2,7 @@ ghost use mathlib.Core.Path.{_≡_};
 ghost use Prim.Native.Nat.{ℕ};
 ghost use Rattle.row.specs.View.{entries};
 ghost use Rattle.sets.specs.Members.{has};
-ghost use Rattle.search.specs.Times.{times};
+ghost use Rattle.route.specs.Components.{times};
 use row::entries::Entries;
 use sets::set::ComponentSet;
 

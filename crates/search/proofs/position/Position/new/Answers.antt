@@ -1,6 +1,6 @@
 use mathlib.Core.Path.{_∙_, sym, ap}
-use Rattle.search.specs.Times.{times}
-use Rattle.search.proofs.Counts.{times-none}
+use Rattle.route.specs.Components.{times}
+use Rattle.route.proofs.Counts.{times-none}
 use Rattle.search.proofs.position.Position.new.Needs as need
 
 pub ghost-result : need.ghost-result

@@ -6,7 +6,7 @@ use Rattle.std.proofs.shelf.Tests.{eqb-true}
 use Rattle.row.specs.View.{entries}
 use Rattle.sets.specs.Members.{has}
 use Rattle.sets.proofs.Membership.{not-in}
-use Rattle.search.proofs.Counts.{none-new, some-old}
+use Rattle.route.proofs.Counts.{none-new, some-old}
 use Rattle.search.proofs.Ties.{tied-more, fits}
 use Rattle.search.proofs.position.Position.push.Needs as need
 use Rattle.search.proofs.position.Position.push.Needs.{then-e-ge2048·by·then-e-ge2048, then-e-ge2048·by·else-e-ge2048·then-len-ge512, then-e-ge2048·by·else-e-ge2048·else-len-ge512·then-contains}

@@ -8,8 +8,8 @@ use native.Mathlib.Omega.{arith}
 use lib.Dec.{eqb}
 use lib.ListN.{length, getD}
 use Rattle.std.proofs.shelf.Tests.{cases-eq, eq-eqb, ne-eqb, cond-true, cond-false}
+use Rattle.route.specs.Components.{times}
 use Rattle.route.specs.Growth.{New}
-use Rattle.search.specs.Times.{times}
 
 pub times-none : (c : ℕ) → times c [] ≡ 0
 unfolding times

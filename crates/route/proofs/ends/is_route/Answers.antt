@@ -1,5 +1,5 @@
-use Rattle.search.proofs.Nexts.{no-end}
-use Rattle.search.proofs.routes.is_route.Needs as need
+use Rattle.route.proofs.Ending.{no-end}
+use Rattle.route.proofs.ends.is_route.Needs as need
 
 pub returns-in-rest-signal : need.returns-in-rest-signal
 returns-in-rest-signal g c =
