@@ -6,21 +6,15 @@ use mathlib.Core.Logic.{⊎-elim}
 use Prim.Native.Nat.{ℕ, _+_, _/_, _<_, _≤_}
 use native.Mathlib.Omega.{arith}
 use lib.Dec.{ltb, eqb}
-use Rattle.std.proofs.shelf.Tests.{cases-eq, eq-eqb, ne-eqb, lt-ltb}
+use Rattle.std.proofs.shelf.Tests.{cases-eq, lt-ltb}
 use Rattle.sets.specs.declared.set.ComponentSet.{ComponentSet}
 use Rattle.sets.specs.Members.{has, joined, left}
-use Rattle.sets.proofs.Membership.{has-low}
+use Rattle.sets.proofs.Membership.{has-low, joined-here, joined-else, left-here, left-else}
 use Rattle.route.specs.Components.{times}
 use Rattle.route.proofs.Counts.{times-push, one-of, one-here, one-else}
 
 abbrev Tied : ComponentSet → List ℕ → Type 0
 Tied s q = (c : ℕ) → has s c ≡ times c q
-
-joined-here : (s : ComponentSet) (k c : ℕ) → k < 512 → c ≡ k → joined s k c ≡ 1
-joined-here s k c h e = rw (lt-ltb k 512 h, eq-eqb c k e) refl
-
-joined-else : (s : ComponentSet) (k c : ℕ) → k < 512 → (c ≡ k → ⊥) → joined s k c ≡ has s c
-joined-else s k c h n = rw (lt-ltb k 512 h, ne-eqb c k n) refl
 
 pub tied-more : (s s′ : ComponentSet) (q q′ : List ℕ) (e : ℕ) → Tied s q → has s (e / 4) ≡ 0 → e < 2048 → q′ ≡ q ++ e ∷ [] → ((c : ℕ) → has s′ c ≡ joined s (e / 4) c) → Tied s′ q′
 tied-more s s′ q q′ e tied out low pushed inserted c =
@@ -39,12 +33,6 @@ tied-more s s′ q q′ e tied out low pushed inserted c =
     let o = one-else c e h in
     omega arith)
     (cases-eq c (e / 4))
-
-left-here : (s : ComponentSet) (k c : ℕ) → c ≡ k → left s k c ≡ 0
-left-here s k c e = rw (eq-eqb c k e) refl
-
-left-else : (s : ComponentSet) (k c : ℕ) → (c ≡ k → ⊥) → left s k c ≡ has s c
-left-else s k c n = rw (ne-eqb c k n) refl
 
 pub tied-less : (s s′ : ComponentSet) (q q′ : List ℕ) (e : ℕ) → Tied s q → q ≡ q′ ++ e ∷ [] → ((c : ℕ) → has s′ c ≡ left s (e / 4) c) → Tied s′ q′
 tied-less s s′ q q′ e tied popped removed c =

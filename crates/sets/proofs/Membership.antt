@@ -1,5 +1,5 @@
 -- Membership is 0 or 1, and 0 from 512 on.
-use mathlib.Core.Path.{_≡_, refl, ap, _∙_}
+use mathlib.Core.Path.{_≡_, refl, sym, ap, _∙_}
 use mathlib.Core.Bool.{false}
 use mathlib.Core.Logic.{⊎-elim}
 use mathlib.Core.List.{List}
@@ -7,10 +7,10 @@ use Prim.Native.Nat.{ℕ, _/_, _%_, _<_, _≤_}
 use native.Mathlib.Omega.{arith}
 use lib.ListN.{getD, replicate, length}
 use Rattle.std.proofs.shelf.Lists.{getD-past, getD-replicate, length-replicate}
-use Rattle.std.proofs.shelf.Tests.{cases-lt, cases-eq, eq-eqb, ne-eqb, eqb-false}
+use Rattle.std.proofs.shelf.Tests.{cases-lt, cases-eq, eq-eqb, ne-eqb, eqb-false, lt-ltb}
 use lib.Dec.{eqb}
 use Rattle.sets.specs.declared.set.ComponentSet.{ComponentSet}
-use Rattle.sets.specs.Members.{has, bit, left}
+use Rattle.sets.specs.Members.{has, bit, joined, left}
 use Rattle.sets.proofs.Flipping.{bit-zero}
 
 pub has-low : (s : ComponentSet) (c : ℕ) → has s c ≤ 1
@@ -37,10 +37,22 @@ has-past s c h =
 pub not-in : (s : ComponentSet) (c : ℕ) → eqb (has s c) 1 ≡ false → has s c ≡ 0
 not-in s c h = let low = has-low s c in let n = eqb-false (has s c) 1 h in omega arith
 
+pub joined-here : (s : ComponentSet) (k c : ℕ) → k < 512 → c ≡ k → joined s k c ≡ 1
+joined-here s k c h e = rw (lt-ltb k 512 h, eq-eqb c k e) refl
+
+pub joined-else : (s : ComponentSet) (k c : ℕ) → k < 512 → (c ≡ k → ⊥) → joined s k c ≡ has s c
+joined-else s k c h n = rw (lt-ltb k 512 h, ne-eqb c k n) refl
+
+pub left-here : (s : ComponentSet) (k c : ℕ) → c ≡ k → left s k c ≡ 0
+left-here s k c e = rw (eq-eqb c k e) refl
+
+pub left-else : (s : ComponentSet) (k c : ℕ) → (c ≡ k → ⊥) → left s k c ≡ has s c
+left-else s k c n = rw (ne-eqb c k n) refl
+
 -- what is not in the set is not taken out of it
 pub left-none : (s : ComponentSet) (old : ℕ) → has s old ≡ 0 → (c : ℕ) → has s c ≡ left s old c
 left-none s old h c =
     ⊎-elim
-    (λ (e : c ≡ old). rw (eq-eqb c old e) (ap (has s) e ∙ h))
-    (λ (n : c ≡ old → ⊥). rw (ne-eqb c old n) refl)
+    (λ (e : c ≡ old). ap (has s) e ∙ h ∙ sym (left-here s old c e))
+    (λ (n : c ≡ old → ⊥). sym (left-else s old c n))
     (cases-eq c old)
