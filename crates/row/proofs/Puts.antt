@@ -1,12 +1,11 @@
 -- Writing one text after another is writing both.
-use mathlib.Core.Path.{_≡_, refl, sym, ap, _∙_}
+use mathlib.Core.Path.{_≡_, sym, ap, _∙_}
 use mathlib.Core.List.{List, [], _∷_, _++_}
 use Prim.Native.Nat.{ℕ, suc, _+_, _<_, _≤_}
 use native.Mathlib.Nat.{add-assoc, zero-add}
 use native.Mathlib.Omega.{arith}
-use borrow.Author.Needs.{needs}
 use lib.ListN.{length, take, drop, set, length-append, length-drop}
-use Rattle.std.proofs.shelf.Lists.{append-assoc, append-nil, take-append-drop, length-take-le, take-at, drop-at, drop-drop, set-split}
+use Rattle.std.proofs.shelf.Lists.{append-assoc, take-append-drop, length-take-le, take-at, drop-at, drop-drop, set-split}
 use Rattle.std.proofs.shelf.Tests.{cond-true, cond-false, lt-ltb, le-ltb}
 use Rattle.std.specs.declared.result.Result.the-variants.{Ok, Err}
 use Rattle.fault.specs.declared.kinds.BoxFault.the-variants.{ShortSpace}
@@ -46,6 +45,14 @@ put-more s p t u h =
     ∙ ap (λ d. (a ++ t) ++ (u ++ d)) rest
     ∙ append-assoc a t (u ++ drop (p + length (t ++ u)) s)
     ∙ ap (λ d. a ++ d) (sym (append-assoc t u (drop (p + length (t ++ u)) s)))
+
+-- one byte more
+pub put-then : (s : List ℕ) (p : ℕ) (t : List ℕ) (b : ℕ) → p + length t < length s → set (put s p t) (p + length t) b ≡ put s p (t ++ b ∷ [])
+put-then s p t b h =
+    let l = length-put s p t (omega arith) in put-one (put s p t) (p + length t) b (omega arith) ∙ put-more s p t (b ∷ []) (omega arith)
+
+pub put-two : (s : List ℕ) (p a b : ℕ) → p + 1 < length s → set (set s p a) (p + 1) b ≡ put s p (a ∷ (b ∷ []))
+put-two s p a b h = ap (λ x. set x (p + 1) b) (put-one s p a (omega arith)) ∙ put-then s p (a ∷ []) b h
 
 -- a text at the front of a space: what is told and left
 pub too-short : (t s : List ℕ) → length s < length t → (Err ShortSpace ≡ text-told t s) × (s ≡ text-left t s)

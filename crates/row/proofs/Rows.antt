@@ -6,7 +6,7 @@ use mathlib.Core.List.{List, [], _∷_, _++_}
 use Prim.Native.Nat.{ℕ, zero, suc, _+_, _*_, _/_, _%_, _<_, _≤_}
 use native.Mathlib.Omega.{arith}
 use lib.Dec.{ltb, leb, eqb}
-use lib.ListN.{length, getD, take, drop}
+use lib.ListN.{length, getD, drop}
 use Rattle.std.proofs.shelf.Lists.{append-assoc, append-nil, at-drop-more, drop-all, drop-more, getD-append-add, ext-getD}
 use Rattle.std.proofs.shelf.Tests.{and-from, and-left, and-parts, and-right, cases-bool, eq-eqb, eqb-true, le-leb, leb-true, ltb-true}
 use Rattle.numbers.specs.Stored.{number, word}

@@ -30,7 +30,7 @@ impl Entries {
         ensures value { λ r. ⌜ r ≡ length (entries (now (self .entry))) ⌝ }
         ensures short { λ r. ⌜ r ≤ 512 ⌝ }
     {
-        self.len
+        self.as_slice().len()
     }
 
     // Whether there was room and the entry is below 2,048; if not, the list stays as it was.

@@ -1,7 +1,5 @@
 use mathlib.Core.Path.{_≡_}
-use mathlib.Core.List.{_++_}
-use lib.ListN.{length, take}
-use Rattle.numbers.specs.Stored.{word}
+use lib.ListN.{take}
 use Rattle.row.specs.Put.{put}
 use Rattle.row.specs.Row.{words}
 use Rattle.row.proofs.writing.write_row.Given as given

@@ -1,0 +1,10 @@
+pub mod Checks
+pub mod Readings
+pub mod Tally
+pub mod Whole
+pub mod PortCodes
+pub mod Places
+pub mod Fields
+pub mod Sound
+pub mod Full
+pub mod Accepted

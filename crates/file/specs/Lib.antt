@@ -1,0 +1,5 @@
+pub mod Checks
+pub mod Contents
+pub mod Members
+pub mod Readings
+pub mod FileOf

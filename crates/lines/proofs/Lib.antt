@@ -1,0 +1,4 @@
+mod Along
+mod Decimals
+mod Fronts
+mod Shown
