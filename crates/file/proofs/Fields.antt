@@ -14,10 +14,9 @@ use Rattle.plan.specs.declared.parts.Side.the-variants.{West, East, Branch}
 use Rattle.plan.specs.declared.parts.Port.{Port}
 use Rattle.plan.specs.Layout.{is-switch, has-side}
 use Rattle.file.specs.Checks.{check, first-failing}
-use Rattle.file.specs.Contents.{section-count, components, kind-of, section-of, port-code, port-of, stored, port-in, layout-of}
+use Rattle.file.specs.Contents.{port, section-count, components, kind-of, section-of, port-code, port-of, stored, port-in, layout-of}
 use Rattle.file.specs.Readings.{opposed, far-checks, blank-check, field-checks, port-checks, switch-checks, component-checks, record-at, section-check, component-fields, section-fields, second-reading}
 use Rattle.file.specs.Members.{members}
-use Rattle.file.specs.FileOf.{port}
 use Rattle.file.proofs.Checks.{Passed, passed-++, parts-++, head-passed, passed-head, each-all, all-each}
 
 pub record Named (s : List ℕ) (p q : Port) : Type 0 where

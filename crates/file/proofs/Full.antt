@@ -19,10 +19,10 @@ use Rattle.plan.specs.declared.parts.Side.the-variants.{West as WestSide, East 
 use Rattle.plan.specs.declared.parts.Port.{Port}
 use Rattle.plan.specs.Layout.{Layout, Lawful, is-switch, is-port, has-side, side-faces, faces, opposite}
 use Rattle.plan.proofs.Ports.{far-port}
-use Rattle.file.specs.Contents.{signal-count, switches-at, switch-count, straights-at, straight-count, components, kind-of, section-of, direction-at, port-of, field-at, stored, port-in, layout-of}
+use Rattle.file.specs.Contents.{port, signal-count, switches-at, switch-count, straights-at, straight-count, components, kind-of, section-of, direction-at, port-of, field-at, stored, port-in, layout-of}
 use Rattle.file.specs.Members.{tally, belongs, members}
 use Rattle.file.specs.Readings.{is-letter, same-direction, opposed}
-use Rattle.file.specs.FileOf.{far-code, letter-of, port, FileWith, Connected}
+use Rattle.file.specs.FileOf.{far-code, letter-of, FileWith, Connected}
 use Rattle.file.proofs.Tally.{tally-same}
 use Rattle.file.proofs.Whole.{Whole}
 use Rattle.file.proofs.PortCodes.{of-far, not-blank}

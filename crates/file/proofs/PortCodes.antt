@@ -10,8 +10,8 @@ use Rattle.std.proofs.shelf.Tests.{eqb-true, eq-eqb, ne-eqb, cond-true, cond-fa
 use Rattle.plan.specs.declared.parts.Side.{Side}
 use Rattle.plan.specs.declared.parts.Side.the-variants.{West, East, Branch}
 use Rattle.plan.specs.declared.parts.Port.{Port}
-use Rattle.file.specs.Contents.{side-number, port-code, port-of}
-use Rattle.file.specs.FileOf.{far-code, port}
+use Rattle.file.specs.Contents.{port, side-number, port-code, port-of}
+use Rattle.file.specs.FileOf.{far-code}
 
 -- the port with a code is the one that has it
 code-side : (c : ℕ) (d : Side) → port-of (4 * c + side-number d) ≡ Some (port c d)

@@ -12,7 +12,7 @@ use Rattle.plan.specs.declared.parts.Side.the-variants.{West, East, Branch}
 use Rattle.plan.specs.declared.parts.Port.{Port}
 use Rattle.plan.specs.Layout.{is-switch}
 use Rattle.file.specs.Checks.{Check, check, first-failing, then}
-use Rattle.file.specs.Contents.{kind-of, section-of, section-count, place, port-of, stored}
+use Rattle.file.specs.Contents.{kind-of, section-of, section-count, place, port, port-of, stored}
 use Rattle.file.specs.Readings.{signal-section, switch-section, straight-section, point-sections, rest, first-reading, blank-check, named-checks, unnamed-checks, far-checks, field-checks, port-checks, switch-checks, component-checks, component-fields, section-fields, second-reading}
 use Rattle.file.proofs.Checks.{failing-++}
 
@@ -35,15 +35,15 @@ port-parts s p = failing-++ (blank-check s p) (field-checks s p)
 abbrev pub section-named : List ℕ → ℕ → List (Check PlanFault)
 section-named s c = check (ltb (section-of s c) (section-count s)) (NoSuchPart (place s c + 7))
 
-pub switch-parts : (s : List ℕ) (c : ℕ) → first-failing (switch-checks s c) ≡ then (first-failing (port-checks s (record { component = c; side = Branch }))) (first-failing (section-named s c))
+pub switch-parts : (s : List ℕ) (c : ℕ) → first-failing (switch-checks s c) ≡ then (first-failing (port-checks s (port c Branch))) (first-failing (section-named s c))
 unfolding switch-checks
-switch-parts s c = failing-++ (port-checks s (record { component = c; side = Branch })) (section-named s c)
+switch-parts s c = failing-++ (port-checks s (port c Branch)) (section-named s c)
 
 if-switch : (b : Bool) (cs : List (Check PlanFault)) → first-failing (cond b cs []) ≡ cond b (first-failing cs) (Ok tt)
 if-switch true cs = refl
 if-switch false cs = refl
 
-pub component-parts : (s : List ℕ) (c : ℕ) → first-failing (component-checks s c) ≡ then (first-failing (port-checks s (record { component = c; side = West }))) (then (first-failing (port-checks s (record { component = c; side = East }))) (cond (is-switch (kind-of s c)) (first-failing (switch-checks s c)) (Ok tt)))
+pub component-parts : (s : List ℕ) (c : ℕ) → first-failing (component-checks s c) ≡ then (first-failing (port-checks s (port c West))) (then (first-failing (port-checks s (port c East))) (cond (is-switch (kind-of s c)) (first-failing (switch-checks s c)) (Ok tt)))
 unfolding component-checks
 component-parts s c = simp (failing-++, if-switch)
 

@@ -16,9 +16,9 @@ use Rattle.plan.specs.declared.parts.Side.{Side}
 use Rattle.plan.specs.declared.parts.Side.the-variants.{West as WestSide, East as EastSide, Branch}
 use Rattle.plan.specs.declared.parts.Port.{Port}
 use Rattle.plan.specs.Layout.{Lawful, is-switch, has-side, faces, opposite}
-use Rattle.file.specs.Contents.{signal-count, switches-at, switch-count, straights-at, straight-count, section-count, components, kind-of, direction-at, port-code, port-of, field-at, stored, port-in, far-of, layout-of}
+use Rattle.file.specs.Contents.{port, signal-count, switches-at, switch-count, straights-at, straight-count, section-count, components, kind-of, direction-at, port-code, port-of, field-at, stored, port-in, far-of, layout-of}
 use Rattle.file.specs.Readings.{is-letter, same-direction, opposed}
-use Rattle.file.specs.FileOf.{far-code, letter-of, port, SignalAt, SwitchAt, StraightAt, Counts, FileWith, Connected, GoodFileOf}
+use Rattle.file.specs.FileOf.{far-code, letter-of, SignalAt, SwitchAt, StraightAt, Counts, FileWith, Connected, GoodFileOf}
 use Rattle.file.proofs.Whole.{Whole}
 use Rattle.file.proofs.PortCodes.{of-code, code-of}
 use Rattle.file.proofs.Places.{signal-place, switch-place, straight-place, signal-kind, switch-kind, straight-kind}

@@ -68,15 +68,18 @@ side-number WestSide = 0
 side-number EastSide = 1
 side-number Branch = 2
 
+abbrev pub port : ℕ → Side → Port
+port c d = record { component = c; side = d }
+
 abbrev pub port-code : Port → ℕ
 port-code p = 4 * p .component + side-number (p .side)
 
 -- The port with the code, if a port can have it.  That of a blank, 65535, is no port's.
 abbrev pub port-of : ℕ → Option Port
 port-of n =
-    cond (eqb (n % 4) 0) (Some (record { component = n / 4; side = WestSide }))
-    (cond (eqb (n % 4) 1) (Some (record { component = n / 4; side = EastSide }))
-    (cond (eqb (n % 4) 2) (Some (record { component = n / 4; side = Branch })) None))
+    cond (eqb (n % 4) 0) (Some (port (n / 4) WestSide))
+    (cond (eqb (n % 4) 1) (Some (port (n / 4) EastSide))
+    (cond (eqb (n % 4) 2) (Some (port (n / 4) Branch)) None))
 
 -- where a port's record names its far port
 abbrev pub field-at : List ℕ → Port → ℕ

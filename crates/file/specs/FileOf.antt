@@ -18,7 +18,7 @@ use Rattle.plan.specs.declared.parts.Side.{Side}
 use Rattle.plan.specs.declared.parts.Side.the-variants.{West as WestSide, East as EastSide, Branch}
 use Rattle.plan.specs.declared.parts.Port.{Port}
 use Rattle.plan.specs.Layout.{Layout, Lawful, is-switch}
-use Rattle.file.specs.Contents.{port-code, layout-of, stored}
+use Rattle.file.specs.Contents.{port, port-code, layout-of, stored}
 use Rattle.file.specs.Members.{members}
 use Rattle.file.specs.Readings.{look}
 
@@ -31,9 +31,6 @@ far-code (Some q) = port-code q
 abbrev pub letter-of : Direction → ℕ
 letter-of East = 69
 letter-of West = 87
-
-abbrev pub port : ℕ → Side → Port
-port c d = record { component = c; side = d }
 
 -- the record of a component, at a place of the file
 

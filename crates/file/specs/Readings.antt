@@ -22,7 +22,7 @@ use Rattle.file.specs.declared.sorts.Sort.{Sort}
 use Rattle.file.specs.declared.sorts.Sort.the-variants.{Signal, Switch, Straight, PointSection}
 use Rattle.file.specs.Members.{members}
 use Rattle.file.specs.Checks.{Check, check, first-failing, each, then}
-use Rattle.file.specs.Contents.{signal-count, switches-at, switch-count, straights-at, straight-count, sections-at, section-count, end-of, components, place, kind-of, section-of, port-code, port-of, field-at, stored, layout-of}
+use Rattle.file.specs.Contents.{signal-count, switches-at, switch-count, straights-at, straight-count, sections-at, section-count, end-of, components, place, kind-of, section-of, port, port-code, port-of, field-at, stored, layout-of}
 
 -- First reading: the records of each section and their letters.
 
@@ -117,13 +117,13 @@ port-checks s p = blank-check s p ++ field-checks s p
 
 unfoldable pub switch-checks : List ℕ → ℕ → List (Check PlanFault)
 switch-checks s c =
-    port-checks s (record { component = c; side = Branch })
+    port-checks s (port c Branch)
     ++ check (ltb (section-of s c) (section-count s)) (NoSuchPart (place s c + 7))
 
 unfoldable pub component-checks : List ℕ → ℕ → List (Check PlanFault)
 component-checks s c =
-    port-checks s (record { component = c; side = WestSide })
-    ++ (port-checks s (record { component = c; side = EastSide })
+    port-checks s (port c WestSide)
+    ++ (port-checks s (port c EastSide)
     ++ cond (is-switch (kind-of s c)) (switch-checks s c) [])
 
 abbrev pub record-at : List ℕ → ℕ → ℕ
