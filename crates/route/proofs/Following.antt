@@ -2,6 +2,11 @@
 use mathlib.Core.Path.{_≡_, refl, sym, ap, _∙_, subst}
 use Prim.Native.Nat.{ℕ, _+_, _*_, _/_, _%_, _<_, _≤_}
 use native.Mathlib.Omega.{arith}
+use mathlib.Core.Bool.{Bool, true, false, cond, _&&_}
+use mathlib.Core.Logic.{_⊎_, inl, inr, ⊎-elim}
+use lib.Dec.{eqb}
+use Rattle.std.proofs.shelf.Tests.{cases-bool, eq-eqb, ne-eqb}
+use Rattle.plan.specs.declared.parts.Side.the-variants.{Branch}
 use Rattle.std.specs.declared.option.Option.{Option}
 use Rattle.std.specs.declared.option.Option.the-variants.{Some, None}
 use Rattle.plan.specs.declared.parts.Direction.{Direction}
@@ -10,7 +15,7 @@ use Rattle.plan.specs.declared.parts.Port.{Port}
 use Rattle.plan.specs.Layout.{Layout, Lawful}
 use Rattle.plan.proofs.Ports.{port-below, far-below}
 use Rattle.route.specs.declared.steps.Range.{Range}
-use Rattle.route.specs.Paths.{exit-of, MayLie, Enters, Follows}
+use Rattle.route.specs.Paths.{exit-of, facing, towards, MayLie, Enters, Follows}
 use Rattle.route.specs.Steps.{Exactly}
 
 entered : (l : Layout) (o : Option Port) (e : ℕ) → Enters l o e → (p : Port) × (o ≡ Some p)
@@ -63,3 +68,18 @@ follows-exactly l d e p k x far kind exact small =
           let high = z .1 in
           (omega arith, omega arith);
     }
+
+-- how a component lies matters only to whether it is left by its branch
+pub follows-either : (l : Layout) (d : Direction) (e e′ : ℕ) → Follows l d e e′ → Follows l d (4 * (e / 4) + 1) e′ ⊎ Follows l d (4 * (e / 4) + 2) e′
+follows-either l d e e′ h =
+    let F : ℕ → Bool → Type 0 = λ c b. Enters l (l .far (record { component = c; side = cond (facing (l .kind c) d && b) Branch (towards d) })) e′ in
+    ⊎-elim
+    (λ (z : eqb (e % 4) 2 ≡ true).
+    let c : e / 4 ≡ (4 * (e / 4) + 2) / 4 = omega arith in
+    let q : (4 * (e / 4) + 2) % 4 ≡ 2 = omega arith in
+    inr (subst (λ (x : ℕ). F x (eqb ((4 * (e / 4) + 2) % 4) 2)) c (subst (F (e / 4)) (z ∙ sym (eq-eqb _ 2 q)) h)))
+    (λ (z : eqb (e % 4) 2 ≡ false).
+    let c : e / 4 ≡ (4 * (e / 4) + 1) / 4 = omega arith in
+    let q : (4 * (e / 4) + 1) % 4 ≡ 2 → ⊥ = omega arith in
+    inl (subst (λ (x : ℕ). F x (eqb ((4 * (e / 4) + 1) % 4) 2)) c (subst (F (e / 4)) (z ∙ sym (ne-eqb _ 2 q)) h)))
+    (cases-bool (eqb (e % 4) 2))

@@ -8,14 +8,16 @@ use native.Mathlib.Omega.{arith}
 use lib.ListN.{length}
 use Rattle.std.specs.declared.option.Option.the-variants.{Some, None}
 use Rattle.std.proofs.shelf.Lists.{length-push}
+use Rattle.std.proofs.shelf.Tests.{cases-lt}
 use Rattle.plan.specs.Layout.{Layout}
 use Rattle.route.specs.Order.{Before}
 use Rattle.route.specs.Paths.{Ends, Route}
 use Rattle.route.specs.Growth.{May, Begun}
-use Rattle.route.proofs.Lex.{Upto, upto-cases, after-zero, past-next, before-trans, before-zero, before-next, before-raise}
+use Rattle.route.proofs.Lex.{Upto, parts, past-upto, upto-raise, upto-cases, after-zero, past-next, before-trans, before-zero, before-next, before-raise}
 use Rattle.route.proofs.Growth.{grown-front, grown-push, onto, done}
 use Rattle.route.proofs.Places.{begun-path, path-begun}
 use Rattle.search.specs.Found.{Least, Found}
+use Rattle.search.specs.Reach.{BarrenBelow}
 
 -- The search from `p` has come to the path `q`, below which it is to look from the entry `f` on.
 pub record Ahead (l : Layout) (p q : List ℕ) (f : ℕ) : Type 0 where
@@ -56,6 +58,24 @@ module _ (l : Layout) (p q : List ℕ) (f e : ℕ) (a : Ahead l p q f) (m : Leas
         (λ k. after-zero (q ++ e ∷ []) r k)
         (upto-cases (q ++ e ∷ []) r (from-found r t b));
   }
+
+-- no route goes on below `q` with an entry under `g`
+pub ahead-below : (l : Layout) (p q : List ℕ) (g : ℕ) → Ahead l p q 0 → BarrenBelow l q g → Ahead l p q g
+ahead-below l p q g a none = record {
+  begun = a .begun;
+  onward = before-raise p q 0 g (omega arith) (a .onward);
+  passed = λ r t b.
+      ⊎-elim
+      (λ (s : (e : ℕ) × (t : List ℕ) × (r ≡ q ++ e ∷ t) × (0 ≤ e)).
+      let R : List ℕ → Type 0 = λ x. Route l x in
+      let U : List ℕ → Type 0 = λ x. Upto (q ++ g ∷ []) x in
+      ⊎-elim
+      (λ (k : s .0 < g). absurd (none (s .0) (s .1) k (subst R (s .2) t)))
+      (λ (k : g ≤ s .0). subst U (sym (s .2)) (upto-raise q (s .1) g (s .0) k))
+      (cases-lt (s .0) g))
+      (λ k. past-upto q (g ∷ []) r k)
+      (parts q r 0 (a .passed r t b));
+}
 
 -- nothing is left below `q`: go back
 pub ahead-back : (l : Layout) (p q : List ℕ) (e f : ℕ) → Ahead l p (q ++ e ∷ []) f → Least (May l (q ++ e ∷ [])) f None → Ahead l p q (e + 1)

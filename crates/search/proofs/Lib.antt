@@ -6,3 +6,5 @@ pub mod Descents
 pub mod Bounds
 pub mod Forward
 pub mod Turns
+pub mod Floods
+pub mod Dead

@@ -11,7 +11,8 @@ use Rattle.route.specs.Growth.{May, Begun}
 use Rattle.search.specs.declared.position.Position.{Position}
 use Rattle.search.specs.View.{path-of}
 use Rattle.search.specs.Found.{Least, Found, Descended}
-use Rattle.search.proofs.Forward.{Ahead, begun-more, ahead-hit, ahead-down, ahead-back, ahead-over}
+use Rattle.search.specs.Reach.{BarrenBelow}
+use Rattle.search.proofs.Forward.{Ahead, begun-more, ahead-hit, ahead-down, ahead-below, ahead-back, ahead-over}
 use Rattle.search.proofs.Bounds.{left, falls-down, falls-back, popped-small}
 
 -- what the search from `p` keeps, at the position `at` from the entry `f` on
@@ -36,13 +37,16 @@ module _ (l : Layout) (p : List ℕ) (at : Position) (f : ℕ) (kept : Keeps l p
         let F : List ℕ → Type 0 = λ x. Found l p x true in
         subst F (sym (down .1)) (ahead-hit l p (path-of at) f (down .0) (kept .1 g) (least g) (subst E (sym same) (ends (begun-here g))))
 
-    pub turn-down : (Begun l s → Ends l s → ⊥) → Keeps l p at′ 0
-    turn-down ends = (
-      omega arith,
+    -- from the entry `n` on, below which no route goes on
+    pub turn-down : (Begun l s → Ends l s → ⊥) → (n : ℕ) → n ≤ 2048 → BarrenBelow l (path-of at′) n → Keeps l p at′ n
+    turn-down ends n few none = (
+      few,
       λ g.
           let E : List ℕ → Type 0 = λ x. Ends l x in
           let F : List ℕ → Type 0 = λ x. Ahead l p x 0 in
-          subst F (sym (down .1)) (ahead-down l p (path-of at) f (down .0) (kept .1 g) (least g) (λ k. ends (begun-here g) (subst E same k))),
+          ahead-below l p (path-of at′) n
+          (subst F (sym (down .1)) (ahead-down l p (path-of at) f (down .0) (kept .1 g) (least g) (λ k. ends (begun-here g) (subst E same k))))
+          none,
     )
 
     pub turn-down-less : (g : ℕ) → left (path-of at′) g < left (path-of at) f

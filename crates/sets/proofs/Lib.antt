@@ -1,3 +1,4 @@
 pub mod Counting
 pub mod Flipping
 pub mod Membership
+pub mod Sizes

@@ -3,7 +3,7 @@ use mathlib.Core.Path.{_≡_, refl, sym, ap, _∙_}
 use mathlib.Core.Bool.{false}
 use mathlib.Core.Logic.{⊎-elim}
 use mathlib.Core.List.{List}
-use Prim.Native.Nat.{ℕ, _/_, _%_, _<_, _≤_}
+use Prim.Native.Nat.{ℕ, _+_, _-_, _*_, _/_, _%_, _<_, _≤_}
 use native.Mathlib.Omega.{arith}
 use lib.ListN.{getD, replicate, length}
 use Rattle.std.proofs.shelf.Lists.{getD-past, getD-replicate, length-replicate}
@@ -56,3 +56,18 @@ left-none s old h c =
     (λ (e : c ≡ old). ap (has s) e ∙ h ∙ sym (left-here s old c e))
     (λ (n : c ≡ old → ⊥). sym (left-else s old c n))
     (cases-eq c old)
+
+-- a word at a time
+pub word-none : (s : ComponentSet) (i c : ℕ) → getD (s .words) i 0 ≡ 0 → 64 * i ≤ c → c < 64 * (i + 1) → has s c ≡ 0
+unfolding has
+word-none s i c h low high =
+    let e : c / 64 ≡ i = omega arith in
+    ap (λ k. bit (getD (s .words) k 0) (c % 64)) e ∙ ap (λ w. bit w (c % 64)) h ∙ bit-zero (c % 64)
+
+pub within-word : (s : ComponentSet) (i c : ℕ) → ((j : ℕ) → j < 64 → has s (64 * i + j) ≡ 0) → 64 * i ≤ c → c < 64 * (i + 1) → has s c ≡ 0
+within-word s i c h low high =
+    let e : c ≡ 64 * i + (c - 64 * i) = omega arith in
+    ap (has s) e ∙ h (c - 64 * i) (omega arith)
+
+pub below-words : (s : ComponentSet) (i : ℕ) → ((c : ℕ) → c < 64 * i → has s c ≡ 0) → ((c : ℕ) → 64 * i ≤ c → c < 64 * (i + 1) → has s c ≡ 0) → (c : ℕ) → c < 64 * (i + 1) → has s c ≡ 0
+below-words s i before here c h = ⊎-elim (λ k. before c k) (λ k. here c k h) (cases-lt c (64 * i))

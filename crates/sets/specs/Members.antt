@@ -33,3 +33,7 @@ sum-below f (suc n) = sum-below f n + f n
 -- how many of the 512 components are in both sets
 abbrev pub in-both : ComponentSet → ComponentSet → ℕ
 in-both a b = sum-below (λ c. min (has a c) (has b c)) 512
+
+-- how many components are in the set
+abbrev pub size : ComponentSet → ℕ
+size s = sum-below (has s) 512

@@ -4,6 +4,8 @@ ghost use mathlib.Core.List.{[], _∷_, _++_};
 ghost use Prim.Native.Nat.{ℕ, _<_, _≤_};
 ghost use lib.ListN.{length, getD};
 ghost use Rattle.std.specs.Options.{Cases as BySome};
+ghost use Rattle.sets.specs.Members.{has};
+ghost use Rattle.route.specs.Components.{times};
 ghost use Rattle.search.specs.View.{path-of, Pushed};
 use super::Position;
 use row::entries::Entries;
@@ -26,6 +28,13 @@ impl Position {
         ensures small { λ r. ⌜ ((k : ℕ) → k < length (now r) → getD (now r) k 0 < 2048) ⌝ }
     {
         self.path.as_slice()
+    }
+
+    // The components on the path.
+    pub fn components(&self) -> ComponentSet
+        ensures { λ r. ⌜ ((c : ℕ) → has r c ≡ times c (path-of (now (self .entry)))) ⌝ }
+    {
+        self.on
     }
 
     // Goes on to the entry, unless its component is on the path already or there is no place for it.

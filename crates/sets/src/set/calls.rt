@@ -1,5 +1,6 @@
 ghost use mathlib.Core.Path.{_≡_};
-ghost use Prim.Native.Nat.{ℕ, _+_, _≤_, _<_};
+ghost use Prim.Native.Nat.{ℕ, _+_, _*_, _≤_, _<_};
+ghost use Rattle.std.specs.Options.{Cases as BySome};
 ghost use lib.Dec.{eqb};
 ghost use Rattle.sets.specs.Members.{has, joined, left, in-both};
 use super::ComponentSet;
@@ -39,6 +40,20 @@ impl ComponentSet {
         }
     }
 
+    // The least component of the set, or none where it is empty.
+    pub fn first(&self) -> Option<u16>
+        ensures { λ r. ⌜ BySome r ((c : ℕ) → has (now (self .entry)) c ≡ 0) (λ c. (c < 512) × (has (now (self .entry)) c ≡ 1) × ((k : ℕ) → k < c → has (now (self .entry)) k ≡ 0)) ⌝ }
+    {
+        for i in 0..8 {
+            if self.words[i as usize] != 0 {
+                if let Some(component) = self.first_of_word(i) {
+                    return Some(component);
+                }
+            }
+        }
+        None
+    }
+
     // How many components are in both sets.
     pub fn common(&self, other: &ComponentSet) -> u16
         ensures { λ r. ⌜ r ≡ in-both (now (self .entry)) (now (other .entry)) ⌝ }
@@ -48,6 +63,18 @@ impl ComponentSet {
             count += (self.words[i] & other.words[i]).count_ones() as u16;
         }
         count
+    }
+
+    fn first_of_word(&self, i: u16) -> Option<u16>
+        requires { ⌜ i < 8 ⌝ }
+        ensures { λ r. ⌜ BySome r ((j : ℕ) → j < 64 → has (now (self .entry)) (64 * i + j) ≡ 0) (λ c. (c < 512) × (has (now (self .entry)) c ≡ 1) × (64 * i ≤ c) × ((j : ℕ) → 64 * i + j < c → has (now (self .entry)) (64 * i + j) ≡ 0)) ⌝ }
+    {
+        for j in 0..64 {
+            if self.contains(64 * i + j) {
+                return Some(64 * i + j);
+            }
+        }
+        None
     }
 
     fn flip(&mut self, component: u16)

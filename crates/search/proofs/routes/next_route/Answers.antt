@@ -15,12 +15,13 @@ returns-then-is-route g c =
 pub loop-at-less-then-descend : need.loop-at-less-then-descend
 loop-at-less-then-descend g c =
     turn-down-less (g .P·Plan .layout (c .args .plan .now)) (path-of (c .args .at .now)) (c .loop-at .at) (c .loop-at .from) (c .loop-at .inv)
-    (c .descend .last .at) (c .if-descend .ensures tt) (c .entries .result .now) (c .entries .ensures .value) 0
+    (c .descend .last .at) (c .if-descend .ensures tt) (c .entries .result .now) (c .entries .ensures .value) (c .first-below-from .result)
 
 pub loop-at-again-then-descend : need.loop-at-again-then-descend
 loop-at-again-then-descend g c =
     turn-down (g .P·Plan .layout (c .args .plan .now)) (path-of (c .args .at .now)) (c .loop-at .at) (c .loop-at .from) (c .loop-at .inv)
     (c .descend .last .at) (c .if-descend .ensures tt) (c .entries .result .now) (c .entries .ensures .value) (c .if-is-route .ensures tt)
+    (c .first-below-from .result) (c .first-below-from .ensures .few) (c .first-below-from .ensures .barren)
 
 pub returns-in-rest : need.returns-in-rest
 returns-in-rest g c =
