@@ -142,9 +142,10 @@ def twelve(track=False):
     return "".join(" ".join(f"{n}{z}" for n, z in r) + "\n" for r in rows) + "end 12\n"
 
 
-def ladder(pairs, last=b"E", spur=False):
-    """A signal, pairs of switches joined at both legs, and a signal of the given letter."""
-    s = Station([b"E", last] + ([b"E"] if spur else []))
+def ladder(pairs, last=b"E", beside=False):
+    """A signal, pairs of switches joined at both legs, and a signal of the given letter; beside it perhaps two signals
+    with nothing between them."""
+    s = Station([b"E", last] + ([b"E", b"E"] if beside else []))
     n = len(s.signals)
     s.switches = [(b"E" if k % 2 == 0 else b"W", k) for k in range(2 * pairs)]
     at = (0, EAST)
@@ -155,8 +156,19 @@ def ladder(pairs, last=b"E", spur=False):
         s.join((a, BRANCH), (b, BRANCH))
         at = (b, EAST)
     s.join(at, (1, WEST))
-    if spur:
-        s.join((1, EAST), (2, WEST))
+    if beside:
+        s.join((2, EAST), (3, WEST))
+    return s.bytes()
+
+
+def ring(pairs):
+    """Pairs of switches in a circle, without a signal, each switch in a point section of its own."""
+    s = Station([], [(b"E" if k % 2 == 0 else b"W", k) for k in range(2 * pairs)])
+    for k in range(pairs):
+        a, b = 2 * k, 2 * k + 1
+        s.join((a, EAST), (b, WEST))
+        s.join((a, BRANCH), (b, BRANCH))
+        s.join((b, EAST), ((b + 1) % (2 * pairs), WEST))
     return s.bytes()
 
 
@@ -195,6 +207,10 @@ def main():
     example("two_blanks", "two ports that are both blank are not connected: no route", s.bytes(), "end 0\n")
     example("no_way_out", "250 pairs of switches that end at a signal of the other direction: no route", ladder(250, b"W"), "end 0\n")
 
+    example("most_components", "512 straight sections that lie apart", Station([], [], 512).bytes(), "end 0\n")
+    example("most_sections", "512 switches in a circle, each in a point section of its own", ring(256), "end 0\n")
+    example("behind_the_dead_ends", "the same, and beside it two signals: the only route comes after all the dead ends", ladder(250, b"W", True), "2 3\nend 1\n")
+
     # One file for each refusal of the first reading, and one for each place where two faults compete.
     refused("empty", "no bytes: the first count is cut off", b"", 1, 0)
     refused("cut_last", "the last point section record is cut off", a[:-1], 1, 32)
@@ -205,6 +221,8 @@ def main():
     refused("many_signals", "513 signals are told before their records are seen to be cut off", word(513), 3, 0)
     refused("many_in_all", "512 signals and one switch", word(512) + (word(BLANK) * 2 + b"E") * 512 + word(1), 3, 2562)
     refused("many_sections", "513 point sections", bytes(6) + word(513), 3, 6)
+    refused("one_component_more", "513 straight sections, all of them there", word(0) + word(0) + word(513) + word(BLANK) * 1026 + word(0), 3, 4)
+    refused("one_section_more", "512 switches, and a point section more than there may be", changed(ring(256), (4614, word(513))) + word(1), 3, 4614)
     refused("wrong_letter", "a letter that is neither E nor W", changed(a, (6, b"\0")), 4, 6)
     refused("letter_then_cut", "a wrong letter in the first record, before the second is cut off", word(2) + word(BLANK) * 2 + b"e" + word(BLANK), 4, 6)
     refused("cut_then_letter", "a record that is cut off before its letter", changed(a, (26, b"X"))[:25], 1, 19)

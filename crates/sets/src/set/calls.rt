@@ -59,8 +59,8 @@ impl ComponentSet {
         ensures { λ r. ⌜ r ≡ in-both (now (self .entry)) (now (other .entry)) ⌝ }
     {
         let mut count = 0;
-        for i in 0..8 {
-            count += (self.words[i] & other.words[i]).count_ones() as u16;
+        for k in 0..8 {
+            count += (self.words[k] & other.words[k]).count_ones() as u16;
         }
         count
     }

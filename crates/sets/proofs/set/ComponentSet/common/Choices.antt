@@ -4,5 +4,5 @@ use Rattle.sets.specs.Members.{sum-below}
 use Rattle.sets.proofs.Counting.{both}
 use Rattle.sets.proofs.set.ComponentSet.common.Given as given
 
-abbrev pub Inv-loop-i : given.InvT-loop-i
-Inv-loop-i l = l .count ≡ sum-below (both (l .self .words) (l .other .words)) (l .i * 64)
+abbrev pub Inv-loop-k : given.InvT-loop-k
+Inv-loop-k l = l .count ≡ sum-below (both (l .self .words) (l .other .words)) (l .k * 64)
