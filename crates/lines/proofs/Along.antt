@@ -3,10 +3,10 @@ use mathlib.Core.Path.{_≡_, sym, ap, _∙_}
 use mathlib.Core.Bool.{true, cond}
 use mathlib.Core.List.{List, [], _∷_, _++_}
 use mathlib.Core.Logic.{⊎-elim}
-use Prim.Native.Nat.{ℕ, _+_, _*_, _<_, _≤_}
+use Prim.Native.Nat.{ℕ, suc, _+_, _*_, _<_, _≤_, suc-le-suc}
 use native.Mathlib.Omega.{arith}
 use lib.Dec.{ltb}
-use lib.ListN.{length, set, take, drop, length-append}
+use lib.ListN.{length, getD, set, take, drop, length-append}
 use Rattle.std.proofs.shelf.Lists.{append-assoc, at-drop-all, at-drop-more, drop-at, length-take-le, take-append-drop, take-at}
 use Rattle.std.proofs.shelf.Tests.{cases-lt, cond-true, cond-false, lt-ltb, le-ltb}
 use Rattle.numbers.specs.Stored.{number}
@@ -15,6 +15,7 @@ use Rattle.row.specs.Row.{is-row, entries-of}
 use Rattle.row.proofs.Rows.{entry-at, entry-parts, length-entries, row-parts}
 use Rattle.lines.specs.Lines.{shown, stop, row-line}
 use Rattle.lines.proofs.Fronts.{text-next, byte-next}
+use Rattle.lines.proofs.Shown.{length-shown}
 
 stop-at : (es : List ℕ) (i : ℕ) → stop (drop (i + 1) es) ≡ cond (ltb (i + 1) (length es)) 32 10
 stop-at es i =
@@ -43,6 +44,22 @@ line-none s i h = let n = length-entries s in at-drop-all row-line (entries-of s
 -- an entry of a row is small
 pub entry-small : (s : List ℕ) (i : ℕ) → is-row s ≡ true → i < number s 0 → number s (2 + 2 * i) < 2048
 entry-small s i r h = entry-parts _ (row-parts s r .3 i h) .0
+
+-- the line of small entries takes at most five bytes for each
+line-most : (es : List ℕ) → ((i : ℕ) → i < length es → getD es i 0 < 2048) → length (row-line es) ≤ 5 * length es
+unfolding row-line
+line-most [] small = omega arith
+line-most (e ∷ es) small =
+    let l = length-append (shown e) (stop es ∷ row-line es) in
+    let s = length-shown e (small 0 (omega arith)) in
+    let r = line-most es (λ i h. small (suc i) (suc-le-suc h)) in
+    omega arith
+
+pub row-most : (s : List ℕ) → is-row s ≡ true → length (row-line (entries-of s)) ≤ 5 * number s 0
+row-most s r =
+    let n = length-entries s in
+    let m = line-most (entries-of s) (λ i h. let k : i < number s 0 = omega arith in let e = entry-at s i k in let b = entry-small s i r k in omega arith) in
+    omega arith
 
 -- a text and a byte more of a line
 pub along : (line t v : List ℕ) (at b : ℕ) → at ≤ length line → drop at line ≡ t ++ (b ∷ v) →

@@ -72,3 +72,14 @@ few (suc f) (suc k) n h =
 pub length-decimal : (n : ℕ) → n < 2 ^ 64 → length (decimal n) ≤ 20
 unfolding decimal
 length-decimal n h = few (suc n) 19 n (omega arith)
+
+pub length-small : (n : ℕ) → n < 1000 → length (decimal n) ≤ 3
+length-small n h =
+    ⊎-elim
+    (λ (a : n < 10). omega (arith, ap length (decimal-digit n a)))
+    (λ (a : 10 ≤ n).
+    ⊎-elim
+    (λ (b : n < 100). omega (arith, ap length (decimal-two n a b)))
+    (λ (b : 100 ≤ n). omega (arith, ap length (decimal-three n b h)))
+    (cases-lt n 100))
+    (cases-lt n 10)

@@ -64,10 +64,11 @@ fn line_count(row: &[u8]) -> usize
     size
 }
 
-// Writes the line of a row at the front of a space that has room for it.
-fn put_line(row: &[u8], space: &mut [u8])
+// Writes the line of a row at the front of a space that has room for it and answers how long it is.
+fn put_line(row: &[u8], space: &mut [u8]) -> usize
     requires { ⌜ is-row (now row) ≡ true ⌝ ∗ ⌜ length (row-line (entries-of (now row))) ≤ length (now space) ⌝ }
-    ensures { λ _. ⌜ now (space .exit) ≡ put (now (space .entry)) 0 (row-line (entries-of (now (row .entry)))) ⌝ }
+    ensures length { λ r. ⌜ r ≡ length (row-line (entries-of (now (row .entry)))) ⌝ }
+    ensures left { λ _. ⌜ now (space .exit) ≡ put (now (space .entry)) 0 (row-line (entries-of (now (row .entry)))) ⌝ }
 {
     let count = entry_count(row);
     let mut at = 0;
@@ -76,6 +77,7 @@ fn put_line(row: &[u8], space: &mut [u8])
         space[end] = stop(i, count);
         at = end + 1;
     }
+    at
 }
 
 // Writes the line of a row at the front of the space and answers how long it is.
@@ -87,10 +89,9 @@ pub fn write_row_line(row: &[u8], space: &mut [u8]) -> Result<usize, BoxFault>
     if !is_row(row) {
         return Err(BoxFault::NotARow);
     }
-    let size = line_count(row);
-    if space.len() < size {
+    // no entry takes more than five bytes, so a long space need not be measured
+    if space.len() < 5 * entry_count(row) && space.len() < line_count(row) {
         return Err(BoxFault::ShortSpace);
     }
-    put_line(row, space);
-    Ok(size)
+    Ok(put_line(row, space))
 }

@@ -15,8 +15,9 @@ pub fn byte_at(bytes: &[u8], i: usize) -> u8
 pub fn number_at(bytes: &[u8], i: usize) -> u16
     ensures { λ r. ⌜ r ≡ number (now (bytes .entry)) i ⌝ }
 {
-    if i >= bytes.len() {
-        return 0;
+    let n = bytes.len();
+    if n >= 2 && i <= n - 2 {
+        return u16::from(bytes[i]) + 256 * u16::from(bytes[i + 1]);
     }
-    u16::from(bytes[i]) + 256 * u16::from(byte_at(bytes, i + 1))
+    u16::from(byte_at(bytes, i))
 }

@@ -13,10 +13,11 @@ pub fn is_route<P: Plan>(plan: &P, at: &[u16]) -> bool
     if n < 2 {
         return false;
     }
-    let Some(way) = signal(plan, at[0] / 4) else {
+    // most paths end at no signal, so the end is asked first
+    let Some(end) = signal(plan, at[n - 1] / 4) else {
         return false;
     };
-    let Some(end) = signal(plan, at[n - 1] / 4) else {
+    let Some(way) = signal(plan, at[0] / 4) else {
         return false;
     };
     end == way

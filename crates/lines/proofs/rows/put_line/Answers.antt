@@ -63,4 +63,7 @@ returns c =
     let line = row-line (entries-of s) in
     let none = ap length (c .loop-i .inv .1 ∙ line-none s (c .loop-i .i) (omega arith)) in
     let left = length-drop (c .loop-i .at) line in
-    c .loop-i .inv .0 ∙ ap (put (c .args .space .now) 0) (take-all (c .loop-i .at) line (omega arith))
+    record {
+      length = omega arith;
+      left = c .loop-i .inv .0 ∙ ap (put (c .args .space .now) 0) (take-all (c .loop-i .at) line (omega arith));
+    }
