@@ -41,7 +41,7 @@ pub fn write_end(count: usize, space: &mut [u8]) -> Result<usize, BoxFault>
     write_count(b"end ", count, space)
 }
 
-// The line that tells that there may be more rows than were counted.
+// The line that tells that so many rows are out and a route remains.
 pub fn write_full(count: usize, space: &mut [u8]) -> Result<usize, BoxFault>
     ensures told { λ r. ⌜ r ≡ text-told (full-line count) (now (space .entry)) ⌝ }
     ensures left { λ _. ⌜ now (space .exit) ≡ text-left (full-line count) (now (space .entry)) ⌝ }

@@ -27,14 +27,16 @@ fn print_rows(file: &[u8], output: &mut Output) -> Result<(), AnyError> {
         let length = match register.turn(&mut space) {
             Ok(length) => length,
             Err(BoxFault::Drained) => return output.close(Closing::End(count)),
-            Err(_) => return output.close(Closing::Full(count)),
+            Err(BoxFault::RowsSpent) => return output.close(Closing::Full(count)),
+            Err(_) =>
+                return Err("a turn was refused for another reason than the end of the rows".into()),
         };
         let Some(row) = space.get(0..length) else {
             return Err("a row is longer than its space".into());
         };
         output.row(row)?;
     }
-    Ok(())
+    Err("the register handed out more rows than it may".into())
 }
 
 fn run(rt: &LibcRuntime) -> Result<(), AnyError> {

@@ -3,6 +3,7 @@ ghost use mathlib.Core.Bool.{false};
 ghost use mathlib.Core.List.{List, []};
 ghost use Prim.Native.Nat.{ℕ};
 ghost use Rattle.std.specs.Results.{isOk};
+ghost use Rattle.route.specs.Order.{StrictAndTotal};
 ghost use Rattle.register.specs.Handed.{Handed, Stands, Turned};
 ghost use Rattle.search.specs.View.{path-of};
 use fault::kinds::BoxFault;
@@ -32,10 +33,11 @@ fn first_route<P: Plan>(plan: &P) -> Position
 }
 
 impl<P: Plan> Register<P> {
-    // Stands before the first route.
+    // Stands before the first route. The order in which the routes come is strict and total.
     pub fn new(plan: P) -> Register<P>
         ensures plan { λ r. ⌜ r .plan ≡ plan ⌝ }
         ensures history { λ r. ⌜ Handed (layout plan) [] r ⌝ }
+        ensures order { λ _. ⌜ StrictAndTotal ⌝ }
     {
         let next = first_route(&plan);
         Register {

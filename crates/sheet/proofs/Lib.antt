@@ -1,0 +1,4 @@
+pub mod Puts
+pub mod Changes
+pub mod Growth
+pub mod Looks
