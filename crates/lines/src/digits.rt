@@ -59,14 +59,13 @@ pub(crate) fn put_small(space: &mut [u8], at: usize, n: u16) -> usize
         space[at] = last;
         return at + 1;
     }
-    let tens = b'0' + (n / 10 % 10) as u8;
     if n < 100 {
-        space[at] = tens;
+        space[at] = b'0' + (n / 10) as u8;
         space[at + 1] = last;
         return at + 2;
     }
     space[at] = b'0' + (n / 100) as u8;
-    space[at + 1] = tens;
+    space[at + 1] = b'0' + (n / 10 % 10) as u8;
     space[at + 2] = last;
     at + 3
 }

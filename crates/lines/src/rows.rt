@@ -1,17 +1,25 @@
 ghost use mathlib.Core.Path.{_≡_};
 ghost use mathlib.Core.Bool.{true, cond};
-ghost use Prim.Native.Nat.{_+_, _<_, _≤_};
+ghost use Prim.Native.Nat.{_+_, _*_, _<_, _≤_};
 ghost use lib.Dec.{ltb};
 ghost use lib.ListN.{length};
+ghost use Rattle.numbers.specs.Stored.{number};
 ghost use Rattle.row.specs.Put.{put};
 ghost use Rattle.row.specs.Row.{is-row, entries-of};
 ghost use Rattle.lines.specs.Lines.{shown, row-line, row-line-told, row-line-left};
 use crate::digits::put_small;
 use crate::digits::small_count;
 use fault::kinds::BoxFault;
-use numbers::number_at;
 use row::shape::entry_count;
 use row::shape::is_row;
+
+// The entry `i` of a row that has it.
+fn known_entry(row: &[u8], i: usize) -> u16
+    requires { ⌜ 3 + 2 * i < length (now row) ⌝ }
+    ensures { λ r. ⌜ r ≡ number (now (row .entry)) (2 + 2 * i) ⌝ }
+{
+    u16::from(row[2 + 2 * i]) + 256 * u16::from(row[3 + 2 * i])
+}
 
 // How long an entry is in print.
 fn shown_count(e: u16) -> usize
@@ -59,7 +67,7 @@ fn line_count(row: &[u8]) -> usize
 {
     let mut size = 0;
     for i in 0..entry_count(row) {
-        size += shown_count(number_at(row, 2 + 2 * i)) + 1;
+        size += shown_count(known_entry(row, i)) + 1;
     }
     size
 }
@@ -73,7 +81,7 @@ fn put_line(row: &[u8], space: &mut [u8]) -> usize
     let count = entry_count(row);
     let mut at = 0;
     for i in 0..count {
-        let end = put_entry(space, at, number_at(row, 2 + 2 * i));
+        let end = put_entry(space, at, known_entry(row, i));
         space[end] = stop(i, count);
         at = end + 1;
     }

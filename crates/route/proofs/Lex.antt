@@ -1,6 +1,6 @@
 -- The order of lists of entries, and where the extensions of a list stand in it.
 use mathlib.Core.Path.{_≡_, refl, sym, ap, _∙_, subst}
-use mathlib.Core.List.{List, [], _∷_, _++_}
+use mathlib.Core.List.{List, [], _∷_, _++_, append-assoc}
 use mathlib.Core.Logic.{_⊎_, inl, inr, ⊎-elim}
 use Prim.Native.Nat.{ℕ, zero, suc, _+_, _<_, _≤_}
 use native.Mathlib.Omega.{arith}
@@ -90,10 +90,15 @@ pub before-child : (q : List ℕ) (f e : ℕ) → f ≤ e → Before (q ++ f ∷
 before-child [] f e h = ⊎-elim (λ k. inl k) (λ k. inr (omega arith, tt)) (cases-lt f e)
 before-child (x ∷ xs) f e h = inr (refl, before-child xs f e h)
 
--- and after an entry that was done with
-pub before-next : (q : List ℕ) (e f : ℕ) → Before ((q ++ e ∷ []) ++ f ∷ []) (q ++ (e + 1) ∷ [])
-before-next [] e f = inl (omega arith)
-before-next (x ∷ xs) e f = inr (refl, before-next xs e f)
+-- and after an entry that was done with, with all that hung below it
+before-next : (q t : List ℕ) (e : ℕ) → Before (q ++ e ∷ t) (q ++ (e + 1) ∷ [])
+before-next [] t e = inl (omega arith)
+before-next (x ∷ xs) t e = inr (refl, before-next xs t e)
+
+pub before-back : (q t : List ℕ) (e f : ℕ) → Before ((q ++ e ∷ t) ++ f ∷ []) (q ++ (e + 1) ∷ [])
+before-back q t e f =
+    let B : List ℕ → Type 0 = λ x. Before x (q ++ (e + 1) ∷ []) in
+    subst B (sym (append-assoc q (e ∷ t) (f ∷ []))) (before-next q (t ++ f ∷ []) e)
 
 pub before-zero : (p : List ℕ) → Before p (p ++ 0 ∷ [])
 before-zero [] = tt

@@ -1,6 +1,6 @@
 -- What bytes, words and entries have to do with each other.
 use mathlib.Core.Path.{_≡_, refl, sym, ap, _∙_}
-use mathlib.Core.Bool.{true, false, _&&_}
+use mathlib.Core.Bool.{Bool, true, false, _&&_}
 use mathlib.Core.Logic.{⊎-elim}
 use mathlib.Core.List.{List, [], _∷_, _++_}
 use Prim.Native.Nat.{ℕ, zero, suc, _+_, _*_, _/_, _%_, _<_, _≤_}
@@ -8,7 +8,7 @@ use native.Mathlib.Omega.{arith}
 use lib.Dec.{ltb, leb, eqb}
 use lib.ListN.{length, getD, drop}
 use Rattle.std.proofs.shelf.Lists.{append-assoc, append-nil, at-drop-more, drop-all, drop-more, getD-append-add, ext-getD}
-use Rattle.std.proofs.shelf.Tests.{and-from, and-left, and-parts, and-right, cases-bool, eq-eqb, eqb-true, le-leb, leb-true, ltb-true}
+use Rattle.std.proofs.shelf.Tests.{and-from, and-parts, cases-bool, eq-eqb, eqb-true, le-leb, leb-true, ltb-true}
 use Rattle.numbers.specs.Stored.{number, word}
 use Rattle.row.specs.Row.{entry-ok, all-ok, is-entries, words, bytes-of, numbers-from, entries-of, is-row}
 use Rattle.row.specs.Laws.{Written-read, Read-written}
@@ -25,24 +25,28 @@ unfolding all-ok
 ok-from [] h = refl
 ok-from (e ∷ es) h = and-from (entry-ok e) (all-ok es) (h 0 (omega arith)) (ok-from es (λ i l. h (suc i) (omega arith)))
 
--- a loop over the entries: what is left decides
+and-assoc : (a b c : Bool) → ((a && b) && c) ≡ (a && (b && c))
+and-assoc true b c = refl
+and-assoc false b c = refl
+
+and-true : (a : Bool) → (a && true) ≡ a
+and-true true = refl
+and-true false = refl
+
+-- a loop over the entries
 step : (es : List ℕ) (i : ℕ) → i < length es → all-ok (drop i es) ≡ (entry-ok (getD es i 0) && all-ok (drop (i + 1) es))
 unfolding all-ok
 step es i h = at-drop-more all-ok es i 0 h
 
-pub ok-fails : (es : List ℕ) (i : ℕ) → i < length es → all-ok (drop i es) ≡ all-ok es → entry-ok (getD es i 0) ≡ false → is-entries es ≡ false
-ok-fails es i h left f =
-    let a : all-ok es ≡ false = sym left ∙ step es i h ∙ and-left _ _ f in
-    and-right (leb 2 (length es)) _ (and-right (leb (length es) 512) _ a)
+-- `good` tells of the entries before the place
+pub good-more : (es : List ℕ) (i : ℕ) (good : Bool) → i < length es → (good && all-ok (drop i es)) ≡ all-ok es → ((good && entry-ok (getD es i 0)) && all-ok (drop (i + 1) es)) ≡ all-ok es
+good-more es i good h left = and-assoc good (entry-ok (getD es i 0)) (all-ok (drop (i + 1) es)) ∙ ap (λ b. good && b) (sym (step es i h)) ∙ left
 
-pub ok-passes : (es : List ℕ) (i : ℕ) → i < length es → all-ok (drop i es) ≡ all-ok es → entry-ok (getD es i 0) ≡ true → all-ok (drop (i + 1) es) ≡ all-ok es
-ok-passes es i h left p = sym (step es i h ∙ ap (λ b. b && all-ok (drop (i + 1) es)) p) ∙ left
-
-pub ok-ends : (es : List ℕ) (i : ℕ) → length es ≤ i → all-ok (drop i es) ≡ all-ok es → 2 ≤ length es → length es ≤ 512 → is-entries es ≡ true
+pub good-ends : (es : List ℕ) (i : ℕ) (good : Bool) → length es ≤ i → (good && all-ok (drop i es)) ≡ all-ok es → 2 ≤ length es → length es ≤ 512 → good ≡ is-entries es
 unfolding all-ok
-ok-ends es i h left two many =
-    let a : all-ok es ≡ true = sym left ∙ ap all-ok (drop-all i es h) in
-    and-from _ _ (le-leb _ _ two) (and-from _ _ (le-leb _ _ many) a)
+good-ends es i good h left two many =
+    let a : good ≡ all-ok es = sym (and-true good) ∙ sym (ap (λ x. good && all-ok x) (drop-all i es h)) ∙ left in
+    a ∙ sym (ap (λ b. b && (leb (length es) 512 && all-ok es)) (le-leb _ _ two) ∙ ap (λ b. b && all-ok es) (le-leb _ _ many))
 
 pub length-words : (es : List ℕ) → length (words es) ≡ 2 * length es
 unfolding words

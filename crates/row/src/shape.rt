@@ -1,5 +1,6 @@
 ghost use mathlib.Core.Path.{_≡_};
-ghost use Prim.Native.Nat.{_+_, _*_};
+ghost use Prim.Native.Nat.{_+_, _*_, _<_};
+ghost use lib.ListN.{length};
 ghost use Rattle.numbers.specs.Stored.{number};
 ghost use Rattle.row.specs.Row.{entry-ok, is-entries, is-row};
 use numbers::number_at;
@@ -18,12 +19,12 @@ pub fn are_entries(row: &[u16]) -> bool
     if row.len() < 2 || row.len() > 512 {
         return false;
     }
+    // no early return: the loop tests many entries at once
+    let mut good = true;
     for e in row {
-        if !is_entry(*e) {
-            return false;
-        }
+        good &= is_entry(*e);
     }
-    true
+    good
 }
 
 // The count that the bytes begin with.
@@ -44,6 +45,14 @@ pub fn entry(bytes: &[u8], i: usize) -> u16
     number_at(bytes, 2 + 2 * i)
 }
 
+// The entry `i` of bytes that are long enough.
+fn known_entry(bytes: &[u8], i: usize) -> u16
+    requires { ⌜ 3 + 2 * i < length (now bytes) ⌝ }
+    ensures { λ r. ⌜ r ≡ number (now (bytes .entry)) (2 + 2 * i) ⌝ }
+{
+    u16::from(bytes[2 + 2 * i]) + 256 * u16::from(bytes[3 + 2 * i])
+}
+
 // Whether the bytes have the shape of a row.
 pub fn is_row(bytes: &[u8]) -> bool
     ensures { λ r. ⌜ r ≡ is-row (now (bytes .entry)) ⌝ }
@@ -52,10 +61,9 @@ pub fn is_row(bytes: &[u8]) -> bool
     if bytes.len() != 2 + 2 * count || count < 2 || count > 512 {
         return false;
     }
+    let mut good = true;
     for i in 0..count {
-        if !is_entry(number_at(bytes, 2 + 2 * i)) {
-            return false;
-        }
+        good &= is_entry(known_entry(bytes, i));
     }
-    true
+    good
 }

@@ -4,10 +4,10 @@ use mathlib.Core.List.{List, [], _∷_, _++_}
 use mathlib.Core.Logic.{⊎-elim}
 use Prim.Native.Nat.{ℕ, _+_, _<_, _≤_}
 use native.Mathlib.Omega.{arith}
-use lib.ListN.{length, getD, take}
-use Rattle.std.proofs.shelf.Lists.{length-push, getD-push, getD-append-left, getD-take, length-take-le}
+use lib.ListN.{length, getD, take, length-append}
+use Rattle.std.proofs.shelf.Lists.{length-push, getD-push, getD-at, getD-append-left, getD-take, length-take-le}
 use Rattle.std.proofs.shelf.Tests.{cases-lt}
-use Rattle.route.proofs.Lex.{before-child, before-next, before-raise}
+use Rattle.route.proofs.Lex.{before-child, before-back, before-raise}
 use Rattle.search.specs.declared.position.Position.{Position}
 use Rattle.search.specs.View.{path-of}
 use Rattle.search.proofs.Heights.{Within, height, height-falls}
@@ -25,11 +25,11 @@ path-small p i h =
 path-short : (p : Position) → length (path-of p) ≤ 512
 path-short p = omega (arith, path-length p, p .path .within)
 
--- the entry that was taken off was a path's
-pub popped-small : (p : Position) (q : List ℕ) (e : ℕ) → path-of p ≡ q ++ e ∷ [] → e < 2048
-popped-small p q e h =
-    let n : length q < length (path-of p) = omega (arith, ap length h, length-push q e) in
-    let k = ap (λ x. getD x (length q) 0) h ∙ getD-push q e 0 (length q) refl in
+-- an entry that was taken off, with those behind it, was a path's
+pub taken-small : (p : Position) (q t : List ℕ) (e : ℕ) → path-of p ≡ q ++ e ∷ t → e < 2048
+taken-small p q t e h =
+    let n : length q < length (path-of p) = omega (arith, ap length h, length-append q (e ∷ t)) in
+    let k = ap (λ x. getD x (length q) 0) h ∙ getD-at q e t 0 (length q) refl in
     let s = path-small p (length q) n in
     omega arith
 
@@ -58,12 +58,11 @@ falls-down p p′ f e g few low pushed =
     (before-raise (q ++ f ∷ []) (q ++ e ∷ []) 0 g (omega arith) (before-child q f e low)))
 
 -- or back
-pub falls-back : (p p′ : Position) (f e : ℕ) → f ≤ 2048 → path-of p ≡ path-of p′ ++ e ∷ [] → left (path-of p′) (e + 1) < left (path-of p) f
-falls-back p p′ f e few popped =
-    let q = path-of p′ in
+pub falls-back : (p : Position) (q t : List ℕ) (f e : ℕ) → f ≤ 2048 → path-of p ≡ q ++ e ∷ t → left q (e + 1) < left (path-of p) f
+falls-back p q t f e few taken =
     let short = path-short p in
     let L : List ℕ → Type 0 = λ x. Within 2048 (x ++ f ∷ []) in
     let M : List ℕ → Type 0 = λ x. left q (e + 1) < left x f in
-    subst M (sym popped)
-    (height-falls 2048 513 ((q ++ e ∷ []) ++ f ∷ []) (q ++ (e + 1) ∷ []) (subst L popped (inside p f few))
-    (omega (arith, length-push q e, length-push q (e + 1), ap length popped)) (before-next q e f))
+    subst M (sym taken)
+    (height-falls 2048 513 ((q ++ e ∷ t) ++ f ∷ []) (q ++ (e + 1) ∷ []) (subst L taken (inside p f few))
+    (omega (arith, length-append q (e ∷ t), length-push q (e + 1), ap length taken)) (before-back q t e f))

@@ -13,7 +13,7 @@ use Rattle.plan.specs.Layout.{Layout}
 use Rattle.route.specs.Order.{Before}
 use Rattle.route.specs.Paths.{Ends, Route}
 use Rattle.route.specs.Growth.{May, Begun}
-use Rattle.route.proofs.Lex.{Upto, parts, past-upto, upto-raise, upto-cases, after-zero, past-next, before-trans, before-zero, before-next, before-raise}
+use Rattle.route.proofs.Lex.{Upto, parts, past-upto, upto-raise, upto-cases, after-zero, past-next, before-trans, before-zero, before-back, before-raise}
 use Rattle.route.proofs.Growth.{grown-front, grown-push, onto, done}
 use Rattle.route.proofs.Places.{begun-path, path-begun}
 use Rattle.search.specs.Found.{Least, Found}
@@ -81,7 +81,7 @@ ahead-below l p q g a none = record {
 pub ahead-back : (l : Layout) (p q : List ℕ) (e f : ℕ) → Ahead l p (q ++ e ∷ []) f → Least (May l (q ++ e ∷ [])) f None → Ahead l p q (e + 1)
 ahead-back l p q e f a m = record {
   begun = grown-front (May l) q (e ∷ []) (a .begun);
-  onward = before-trans p ((q ++ e ∷ []) ++ f ∷ []) (q ++ (e + 1) ∷ []) (a .onward) (before-next q e f);
+  onward = before-trans p ((q ++ e ∷ []) ++ f ∷ []) (q ++ (e + 1) ∷ []) (a .onward) (before-back q [] e f);
   passed = λ r t b. past-next q r e (done (May l) (q ++ e ∷ []) r f m (path-begun l r (t .0)) (a .passed r t b));
 }
 

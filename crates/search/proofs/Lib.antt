@@ -5,6 +5,7 @@ pub mod Nexts
 pub mod Descents
 pub mod Bounds
 pub mod Forward
+pub mod Retreats
 pub mod Turns
 pub mod Floods
 pub mod Dead

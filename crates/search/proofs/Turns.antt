@@ -4,16 +4,18 @@ use mathlib.Core.List.{List, [], _∷_, _++_}
 use mathlib.Core.Bool.{Bool, true, false}
 use Prim.Native.Nat.{ℕ, _+_, _<_, _≤_}
 use native.Mathlib.Omega.{arith}
+use lib.ListN.{length}
 use Rattle.std.specs.declared.option.Option.the-variants.{Some, None}
 use Rattle.plan.specs.Layout.{Layout}
 use Rattle.route.specs.Paths.{Ends}
 use Rattle.route.specs.Growth.{May, Begun}
 use Rattle.search.specs.declared.position.Position.{Position}
-use Rattle.search.specs.View.{path-of}
+use Rattle.search.specs.View.{path-of, Retreated}
 use Rattle.search.specs.Found.{Least, Found, Descended}
 use Rattle.search.specs.Reach.{BarrenBelow}
-use Rattle.search.proofs.Forward.{Ahead, begun-more, ahead-hit, ahead-down, ahead-below, ahead-back, ahead-over}
-use Rattle.search.proofs.Bounds.{left, falls-down, falls-back, popped-small}
+use Rattle.search.proofs.Forward.{Ahead, begun-more, ahead-hit, ahead-down, ahead-below, ahead-over}
+use Rattle.search.proofs.Retreats.{ahead-retreat}
+use Rattle.search.proofs.Bounds.{left, falls-down, falls-back, taken-small}
 
 -- what the search from `p` keeps, at the position `at` from the entry `f` on
 abbrev pub Keeps : Layout → List ℕ → Position → ℕ → Type 0
@@ -65,18 +67,18 @@ module _ (l : Layout) (p : List ℕ) (at : Position) (f : ℕ) (kept : Keeps l p
         let F : List ℕ → Type 0 = λ x. Found l p x false in
         subst F (sym (empty .1)) (ahead-over l p f (subst A q (kept .1 g)) (subst M q (none .1 (kept .1 g .begun))))
 
-    module _ (e : ℕ) (popped : path-of stay ≡ path-of back ++ e ∷ []) where
-      was : path-of at ≡ path-of back ++ e ∷ []
-      was = sym still ∙ popped
+    module _ (e : ℕ) (taken : Retreated (path-of stay) (path-of back) (Some e)) where
+      was : path-of at ≡ path-of back ++ e ∷ taken .0
+      was = sym still ∙ taken .1
 
       pub turn-back : Keeps l p back (e + 1)
       turn-back = (
-        (let s = popped-small at (path-of back) e was in omega arith),
+        (let s = taken-small at (path-of back) (taken .0) e was in omega arith),
         λ g.
             let A : List ℕ → Type 0 = λ x. Ahead l p x f in
             let M : List ℕ → Type 0 = λ x. Least (May l x) f None in
-            ahead-back l p (path-of back) e f (subst A was (kept .1 g)) (subst M was (none .1 (kept .1 g .begun))),
+            ahead-retreat l p (path-of back) e (length (taken .0)) (taken .0) f refl (taken .2) (subst A was (kept .1 g)) (subst M was (none .1 (kept .1 g .begun))),
       )
 
       pub turn-back-less : left (path-of back) (e + 1) < left (path-of at) f
-      turn-back-less = falls-back at back f e (kept .0) was
+      turn-back-less = falls-back at (path-of back) (taken .0) f e (kept .0) was

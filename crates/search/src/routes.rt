@@ -41,7 +41,7 @@ pub fn next_route<P: Plan>(plan: &P, at: &mut Position) -> bool
             }
             from = first_below(plan, at, steps_back);
         } else {
-            let Some(e) = at.pop() else {
+            let Some(e) = at.retreat() else {
                 return false;
             };
             from = e + 1;

@@ -6,7 +6,7 @@ ghost use lib.ListN.{length, getD};
 ghost use Rattle.std.specs.Options.{Cases as BySome};
 ghost use Rattle.sets.specs.Members.{has};
 ghost use Rattle.route.specs.Components.{times};
-ghost use Rattle.search.specs.View.{path-of, Pushed};
+ghost use Rattle.search.specs.View.{path-of, Pushed, Retreated};
 use super::Position;
 use row::entries::Entries;
 use sets::set::ComponentSet;
@@ -59,5 +59,18 @@ impl Position {
         };
         self.on.remove(e / 4);
         Some(e)
+    }
+
+    // Goes back past every entry that no other can stand in the place of, and by one entry more: a switch that lies
+    // normal may lie reverse as well, and after the first entry another may start.
+    pub fn retreat(&mut self) -> Option<u16>
+        ensures { λ r. ⌜ Retreated (path-of (now (self .entry))) (path-of (now (self .exit))) r ⌝ }
+    {
+        while let Some(e) = self.pop() {
+            if e % 4 == 1 || self.path.len() == 0 {
+                return Some(e);
+            }
+        }
+        None
     }
 }

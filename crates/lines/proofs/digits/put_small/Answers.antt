@@ -35,7 +35,13 @@ returns-then-n-lt100 c =
     let n = c .args .n in
     let e = decimal-two n (omega arith) (omega arith) in
     let l = ap length e in
-    record { next = omega arith; left = put-two s at (digit (n / 10 % 10)) (digit (n % 10)) (omega arith) ∙ ap (put s at) (sym e) }
+    let d : n / 10 ≡ n / 10 % 10 = omega arith in
+    record {
+      next = omega arith;
+      left = put-two s at (digit (n / 10)) (digit (n % 10)) (omega arith)
+          ∙ ap (λ k. put s at (digit k ∷ (digit (n % 10) ∷ []))) d
+          ∙ ap (put s at) (sym e);
+    }
 
 pub index-space-at-2 : need.index-space-at-2
 index-space-at-2 c = let e = ap length (decimal-three (c .args .n) (omega arith) (omega arith)) in omega arith

@@ -20,7 +20,7 @@ loop-i-again c =
     let i = c .loop-i .i in
     let e = number s (2 + 2 * i) in
     let rest = row-line (drop (i + 1) (entries-of s)) in
-    let count : c .shown-count .result ≡ length (shown e) = c .shown-count .ensures .value ∙ ap (λ x. length (shown x)) (c .number-at .ensures) in
+    let count : c .shown-count .result ≡ length (shown e) = c .shown-count .ensures .value ∙ ap (λ x. length (shown x)) (c .known-entry .ensures) in
     let step = ap length (line-step s i (omega arith)) ∙ length-append (shown e) (cond (ltb (i + 1) (number s 0)) 32 10 ∷ rest) in
     (omega arith, omega arith)
 

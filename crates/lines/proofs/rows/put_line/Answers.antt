@@ -21,19 +21,19 @@ pub put-entry-end-requires : need.put-entry-end-requires
 put-entry-end-requires c κs =
     let s = c .args .row .now in
     let small = entry-small s (c .loop-i .i) (c .pre .0) (omega arith) in
-    let fits = next-entry s (c .loop-i .at) (c .loop-i .i) (c .number-at .result) (omega arith) (c .number-at .ensures) (c .loop-i .inv .2) (c .loop-i .inv .1) .1 in
+    let fits = next-entry s (c .loop-i .at) (c .loop-i .i) (c .known-entry .result) (omega arith) (c .known-entry .ensures) (c .loop-i .inv .2) (c .loop-i .inv .1) .1 in
     (omega arith, omega arith)
 
 pub index-space-end : need.index-space-end
 index-space-end c =
     let s = c .args .row .now in
-    let fits = next-entry s (c .loop-i .at) (c .loop-i .i) (c .number-at .result) (omega arith) (c .number-at .ensures) (c .loop-i .inv .2) (c .loop-i .inv .1) .1 in
+    let fits = next-entry s (c .loop-i .at) (c .loop-i .i) (c .known-entry .result) (omega arith) (c .known-entry .ensures) (c .loop-i .inv .2) (c .loop-i .inv .1) .1 in
     omega arith
 
 pub add-at : need.add-at
 add-at c =
     let s = c .args .row .now in
-    let fits = next-entry s (c .loop-i .at) (c .loop-i .i) (c .number-at .result) (omega arith) (c .number-at .ensures) (c .loop-i .inv .2) (c .loop-i .inv .1) .1 in
+    let fits = next-entry s (c .loop-i .at) (c .loop-i .i) (c .known-entry .result) (omega arith) (c .known-entry .ensures) (c .loop-i .inv .2) (c .loop-i .inv .1) .1 in
     omega arith
 
 pub loop-i-again : need.loop-i-again
@@ -41,10 +41,10 @@ loop-i-again c =
     let s = c .args .row .now in
     let line = row-line (entries-of s) in
     let at = c .loop-i .at in
-    let e = c .number-at .result in
+    let e = c .known-entry .result in
     let rest = row-line (drop (c .loop-i .i + 1) (entries-of s)) in
     let b = c .stop .result in
-    let next = next-entry s at (c .loop-i .i) e (omega arith) (c .number-at .ensures) (c .loop-i .inv .2) (c .loop-i .inv .1) in
+    let next = next-entry s at (c .loop-i .i) e (omega arith) (c .known-entry .ensures) (c .loop-i .inv .2) (c .loop-i .inv .1) in
     let stopped : cond (ltb (c .loop-i .i + 1) (number s 0)) 32 10 ≡ b =
     sym (c .stop .ensures ∙ ap (λ k. cond (ltb (c .loop-i .i + 1) k) 32 10) (c .entry-count-count .ensures)) in
     let ahead : drop at line ≡ shown e ++ (b ∷ rest) = next .0 ∙ ap (λ x. shown e ++ (x ∷ rest)) stopped in

@@ -1,14 +1,18 @@
-use mathlib.Core.Path.{sym}
+use mathlib.Core.Path.{ap, _∙_}
+use mathlib.Core.Bool.{_&&_}
+use Prim.Native.Nat.{_+_}
 use native.Mathlib.Omega.{arith}
-use Rattle.row.proofs.Rows.{ok-fails, ok-passes, ok-ends}
+use lib.ListN.{drop}
+use Rattle.row.specs.Row.{all-ok}
+use Rattle.row.proofs.Rows.{good-more, good-ends}
 use Rattle.row.proofs.shape.are_entries.Needs as need
 
-pub returns-then-not-is-entry : need.returns-then-not-is-entry
-returns-then-not-is-entry c =
-    sym (ok-fails (c .args .row .now) (c .loop-e .e-index) (omega arith) (c .loop-e .inv) (sym (c .if-not-is-entry .ensures tt)))
-
 pub loop-e-again : need.loop-e-again
-loop-e-again c = ok-passes (c .args .row .now) (c .loop-e .e-index) (omega arith) (c .loop-e .inv) (sym (c .if-not-is-entry .ensures tt))
+loop-e-again c =
+    let row = c .args .row .now in
+    let i = c .loop-e .e-index in
+    ap (λ b. (c .loop-e .good && b) && all-ok (drop (i + 1) row)) (c .is-entry-good .ensures)
+    ∙ good-more row i (c .loop-e .good) (omega arith) (c .loop-e .inv)
 
 pub returns : need.returns
-returns c = sym (ok-ends (c .args .row .now) (c .loop-e .e-index) (omega arith) (c .loop-e .inv) (omega arith) (omega arith))
+returns c = good-ends (c .args .row .now) (c .loop-e .e-index) (c .loop-e .good) (omega arith) (c .loop-e .inv) (omega arith) (omega arith)

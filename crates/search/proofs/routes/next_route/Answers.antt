@@ -26,20 +26,20 @@ loop-at-again-then-descend g c =
 pub returns-in-rest : need.returns-in-rest
 returns-in-rest g c =
     turn-over (g .P·Plan .layout (c .args .plan .now)) (path-of (c .args .at .now)) (c .loop-at .at) (c .loop-at .from) (c .loop-at .inv)
-    (c .descend .last .at) (c .pop .last .self) (c .if-descend .ensures tt) (c .in-rest .ensures tt)
+    (c .descend .last .at) (c .retreat .last .self) (c .if-descend .ensures tt) (c .in-rest .ensures tt)
 
 pub add-from : need.add-from
 add-from g c =
     let few = turn-back (g .P·Plan .layout (c .args .plan .now)) (path-of (c .args .at .now)) (c .loop-at .at) (c .loop-at .from) (c .loop-at .inv)
-    (c .descend .last .at) (c .pop .last .self) (c .if-descend .ensures tt) (c .in-Some .e) (c .in-Some .ensures tt) .0 in
+    (c .descend .last .at) (c .retreat .last .self) (c .if-descend .ensures tt) (c .in-Some .e) (c .in-Some .ensures tt) .0 in
     omega arith
 
 pub loop-at-less : need.loop-at-less
 loop-at-less g c =
     turn-back-less (g .P·Plan .layout (c .args .plan .now)) (path-of (c .args .at .now)) (c .loop-at .at) (c .loop-at .from) (c .loop-at .inv)
-    (c .descend .last .at) (c .pop .last .self) (c .if-descend .ensures tt) (c .in-Some .e) (c .in-Some .ensures tt)
+    (c .descend .last .at) (c .retreat .last .self) (c .if-descend .ensures tt) (c .in-Some .e) (c .in-Some .ensures tt)
 
 pub loop-at-again : need.loop-at-again
 loop-at-again g c =
     turn-back (g .P·Plan .layout (c .args .plan .now)) (path-of (c .args .at .now)) (c .loop-at .at) (c .loop-at .from) (c .loop-at .inv)
-    (c .descend .last .at) (c .pop .last .self) (c .if-descend .ensures tt) (c .in-Some .e) (c .in-Some .ensures tt)
+    (c .descend .last .at) (c .retreat .last .self) (c .if-descend .ensures tt) (c .in-Some .e) (c .in-Some .ensures tt)
