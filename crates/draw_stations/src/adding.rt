@@ -1,6 +1,9 @@
 use crate::answers::prepared;
+use crate::answers::print_far;
 use crate::answers::print_number;
+use crate::trial::east;
 use crate::trial::unused;
+use crate::trial::west;
 use fault::kinds::PlanFault;
 use sheet::sheet::Sheet;
 use std::error::AnyError;
@@ -31,6 +34,34 @@ fn print_no_space(rt: &LibcRuntime) -> Result<(), AnyError> {
     let mut space = [unused(); 0];
     let mut sheet = Sheet::new(&mut space);
     print_number(rt, "a straight section in no space", sheet.add_straight())
+}
+
+fn draw_pair(sheet: &mut Sheet<'_>) -> Result<(), PlanFault> {
+    let first = sheet.add_straight()?;
+    let second = sheet.add_straight()?;
+    sheet.connect(east(first), west(second))
+}
+
+// What the records name that another sheet left behind counts for nothing.
+fn print_used_space(rt: &LibcRuntime) -> Result<(), AnyError> {
+    let mut space = [unused(); 2];
+    let mut sheet = Sheet::new(&mut space);
+    prepared(draw_pair(&mut sheet))?;
+    let mut sheet = Sheet::new(&mut space);
+    print_number(
+        rt,
+        "a straight section in a used space",
+        sheet.add_straight(),
+    )?;
+    print_far(rt, "from its east", sheet.far(east(0)))?;
+    print_far(
+        rt,
+        "from a component that is not added yet",
+        sheet.far(west(1)),
+    )?;
+    print_number(rt, "a second beside it", sheet.add_straight())?;
+    print_far(rt, "from the west of the second", sheet.far(west(1)))?;
+    print_far(rt, "from the east of the first", sheet.far(east(0)))
 }
 
 fn print_letters(rt: &LibcRuntime) -> Result<(), AnyError> {
@@ -112,6 +143,7 @@ fn print_most_sections(rt: &LibcRuntime) -> Result<(), AnyError> {
 pub fn print_adding(rt: &LibcRuntime) -> Result<(), AnyError> {
     print_space_for_three(rt)?;
     print_no_space(rt)?;
+    print_used_space(rt)?;
     print_letters(rt)?;
     print_most_components(rt)?;
     print_most_sections(rt)

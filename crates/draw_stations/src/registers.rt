@@ -75,7 +75,7 @@ pub fn print_register<P: Plan + Drop>(rt: &LibcRuntime, plan: P) -> Result<(), A
     print_rows(rt, &mut register)
 }
 
-// Holds two registers to each other, row by row. Both spaces hold the same bytes behind equal rows.
+// Holds two registers to each other, row by row. The spaces begin alike, so equal rows leave them alike.
 pub fn compare<P: Plan, Q: Plan>(
     first: &mut Register<P>,
     second: &mut Register<Q>,
