@@ -68,7 +68,7 @@ def own_imports(text, crates):
     names = set()
     for path, items in USE.findall(text):
         parts = path.split(".")
-        if parts[0] == "Rattle" and len(parts) > 1 and parts[1] in crates and "declared" not in parts:
+        if parts[0] == "Rattle" and len(parts) > 1 and parts[1] in crates and not {"declared", "Goals"} & set(parts):
             for item in items.split(","):
                 names.update(w for w in item.replace(" as ", " ").split())
     return names

@@ -1,4 +1,5 @@
 // Worked examples: what each call answers, held to a text that was worked out by hand from the rules.
+#![tactic(auto)]
 
 mod damages;
 mod fields;

@@ -17,7 +17,7 @@ pub(crate) fn perform<P: Plan>(
     order: Order,
 ) -> Answer
     requires { vec_len pool.old < vec_capacity pool.old }
-    ensures step { (j : Journal) → Kept (layout station.old.register.plan) j station.old → Step (layout station.old.register.plan) j (serials pool.old.items) order result (serials pool.new.items) station.new }
+    ensures step { (j : Journal) → Kept (P.layout station.old.register.plan) j station.old → Step (P.layout station.old.register.plan) j (serials pool.old.items) order result (serials pool.new.items) station.new }
     ensures plan { station.new.register.plan ≡ station.old.register.plan }
     ensures len { vec_len pool.new ≤ vec_len pool.old + 1 }
     ensures capacity { vec_capacity pool.new ≡ vec_capacity pool.old }
@@ -42,7 +42,7 @@ pub(crate) fn perform<P: Plan>(
 // Opens a row; the slip goes to the pool.
 fn open<P: Plan>(station: &mut SignalBox<P>, pool: &mut Vec<Slip>, row: Vec<u8>) -> Answer
     requires { vec_len pool.old < vec_capacity pool.old }
-    ensures step { (j : Journal) → Kept (layout station.old.register.plan) j station.old → Step (layout station.old.register.plan) j (serials pool.old.items) (Open row) result (serials pool.new.items) station.new }
+    ensures step { (j : Journal) → Kept (P.layout station.old.register.plan) j station.old → Step (P.layout station.old.register.plan) j (serials pool.old.items) (Open row) result (serials pool.new.items) station.new }
     ensures plan { station.new.register.plan ≡ station.old.register.plan }
     ensures len { vec_len pool.new ≤ vec_len pool.old + 1 }
     ensures capacity { vec_capacity pool.new ≡ vec_capacity pool.old }
@@ -60,7 +60,7 @@ fn open<P: Plan>(station: &mut SignalBox<P>, pool: &mut Vec<Slip>, row: Vec<u8>)
 // Releases a slip of the pool; one that is handed back goes to the end of the pool.
 fn release<P: Plan>(station: &mut SignalBox<P>, pool: &mut Vec<Slip>, place: usize) -> Answer
     requires { vec_len pool.old < vec_capacity pool.old }
-    ensures step { (j : Journal) → Kept (layout station.old.register.plan) j station.old → Step (layout station.old.register.plan) j (serials pool.old.items) (Release place) result (serials pool.new.items) station.new }
+    ensures step { (j : Journal) → Kept (P.layout station.old.register.plan) j station.old → Step (P.layout station.old.register.plan) j (serials pool.old.items) (Release place) result (serials pool.new.items) station.new }
     ensures plan { station.new.register.plan ≡ station.old.register.plan }
     ensures len { vec_len pool.new ≤ vec_len pool.old + 1 }
     ensures capacity { vec_capacity pool.new ≡ vec_capacity pool.old }

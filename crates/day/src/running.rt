@@ -29,7 +29,7 @@ pub fn run_day<P: Plan + Drop>(
     orders: Vec<Order>,
     pool: &mut Vec<Slip>,
 ) -> Result<DayEnd, AllocError>
-    ensures day { IfOk result (λ d. WholeDay P (layout plan) (serials pool.old.items) orders.items d.answers.items (serials pool.new.items) (view d.frame)) }
+    ensures day { IfOk result (λ d. WholeDay P (P.layout plan) (serials pool.old.items) orders.items d.answers.items (serials pool.new.items) (view d.frame)) }
     ensures refused { OnErr result (pool.new.items ≡ pool.old.items) }
 {
     let mut station = SignalBox::new(plan);
@@ -47,7 +47,7 @@ fn serve<P: Plan>(
     orders: Vec<Order>,
     pool: &mut Vec<Slip>,
 ) -> Result<Vec<Answer>, AllocError>
-    ensures served { (j : Journal) → Kept (layout station.old.register.plan) j station.old → IfOk result (λ v. Served (layout station.old.register.plan) j (serials pool.old.items) orders.items v.items (serials pool.new.items) station.new) }
+    ensures served { (j : Journal) → Kept (P.layout station.old.register.plan) j station.old → IfOk result (λ v. Served (P.layout station.old.register.plan) j (serials pool.old.items) orders.items v.items (serials pool.new.items) station.new) }
     ensures refused { OnErr result (pool.new.items ≡ pool.old.items) }
 {
     let mut answers = Vec::with_capacity(heap, orders.len())?;

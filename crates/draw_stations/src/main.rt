@@ -1,5 +1,6 @@
 // Draws two stations on sheets and prints their registers, which must be those of the filed plans. Then it tries the
 // calls of the sheet one by one. What it prints is held to a text that was worked out by hand from the rules.
+#![tactic(auto)]
 
 mod adding;
 mod answers;

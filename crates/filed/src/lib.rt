@@ -1,4 +1,5 @@
 // The filed plan: a station plan that is read straight from the bytes of a file.
+#![tactic(auto)]
 
 pub mod filed;
 pub mod records;

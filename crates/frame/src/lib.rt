@@ -1,4 +1,5 @@
 // The practice frame: switches are thrown, sections occupied, and routes opened on it, for any plan.
+#![tactic(auto)]
 
 pub mod frame;
 mod held;

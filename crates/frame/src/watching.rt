@@ -6,7 +6,7 @@ use plan::parts::Kind;
 
 // The section that watches the component; none watches a signal.
 pub(crate) fn section_of<P: Plan>(plan: &P, component: u16) -> Option<u16>
-    ensures { WatchedBy (layout plan.now) component result }
+    ensures { WatchedBy (P.layout plan.now) component result }
 {
     let Ok(kind) = plan.kind(component) else {
         return None;
@@ -24,7 +24,7 @@ pub(crate) fn section_of<P: Plan>(plan: &P, component: u16) -> Option<u16>
 }
 
 fn watches<P: Plan>(plan: &P, section: u16, component: u16) -> bool
-    ensures { MatchBool result (Watches (layout plan.now) section component) (Watches (layout plan.now) section component → ⊥) }
+    ensures { MatchBool result (Watches (P.layout plan.now) section component) (Watches (P.layout plan.now) section component → ⊥) }
 {
     let Some(number) = section_of(plan, component) else {
         return false;
@@ -34,7 +34,7 @@ fn watches<P: Plan>(plan: &P, section: u16, component: u16) -> bool
 
 // Whether the number is that of a section of the plan.
 pub(crate) fn is_section<P: Plan>(plan: &P, section: u16) -> bool
-    ensures { MatchBool result (IsSection (layout plan.now) section) (IsSection (layout plan.now) section → ⊥) }
+    ensures { MatchBool result (IsSection (P.layout plan.now) section) (IsSection (P.layout plan.now) section → ⊥) }
 {
     for component in 0..plan.count() {
         if watches(plan, section, component) {

@@ -1,4 +1,5 @@
 // Two days at a signal box: every call with its answer, held to a text that was worked out by hand from the rules.
+#![tactic(auto)]
 
 mod days;
 mod plans;

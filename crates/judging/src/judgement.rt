@@ -12,8 +12,8 @@ use row::reading::read_row;
 // Accepts the row exactly where it is a route of the plan. A row that is none is refused with the place of the first
 // entry that no path has there, or with the number of its entries where only its end is wrong.
 pub fn judge<P: Plan>(plan: &P, row: &[u8]) -> Result<(), BoxFault>
-    ensures judged { Judged (layout plan.now) row.now result }
-    ensures routes { is_row row.now ≡ true → Route (layout plan.now) (entries_of row.now) → result ≡ Ok tt }
+    ensures judged { Judged (P.layout plan.now) row.now result }
+    ensures routes { is_row row.now ≡ true → Route (P.layout plan.now) (entries_of row.now) → result ≡ Ok tt }
 {
     let entries = read_row(row)?;
     let path = entries.as_slice();

@@ -10,7 +10,7 @@ use sets::set::ComponentSet;
 
 // Whether the entry `e` comes next after `last`, travelling `way`.
 fn follows<P: Plan>(plan: &P, way: Direction, last: u16, e: u16) -> bool
-    ensures { MatchBool result (Follows (layout plan.now) way last e) (Follows (layout plan.now) way last e → ⊥) }
+    ensures { MatchBool result (Follows (P.layout plan.now) way last e) (Follows (P.layout plan.now) way last e → ⊥) }
 {
     let Some(range) = onward(plan, way, last) else {
         return false;
@@ -20,7 +20,7 @@ fn follows<P: Plan>(plan: &P, way: Direction, last: u16, e: u16) -> bool
 
 // The direction of the signal that the entry starts from; none where no path starts so.
 fn start<P: Plan>(plan: &P, e: u16) -> Option<Direction>
-    ensures { StartAt (layout plan.now) e result }
+    ensures { StartAt (P.layout plan.now) e result }
 {
     if e % 4 != 0 {
         return None;
@@ -30,7 +30,7 @@ fn start<P: Plan>(plan: &P, e: u16) -> Option<Direction>
 
 // How many entries from the front on make a path.
 pub(crate) fn walked<P: Plan>(plan: &P, row: &[u16]) -> usize
-    ensures { Walked (layout plan.now) row.now result }
+    ensures { Walked (P.layout plan.now) row.now result }
 {
     if row.is_empty() {
         return 0;

@@ -1,4 +1,5 @@
 // Numbers as files and rows store them: two bytes each, the low byte first.
+#![tactic(auto)]
 
 ghost use Rattle.std.specs.Prelude.{◌≡◌, slice_index};
 ghost use Rattle.numbers.specs.Stored.{number};

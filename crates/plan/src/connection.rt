@@ -15,7 +15,7 @@ fn is_same(a: Port, b: Port) -> bool
 // Whether the two ports are connected. A blank is no port, so a blank port is connected to none, not even to
 // another blank one.
 pub fn connected<P: Plan>(plan: &P, a: Port, b: Port) -> Result<bool, PlanFault>
-    ensures told { result ≡ told_connected (layout plan.now) a b }
+    ensures told { result ≡ told_connected (P.layout plan.now) a b }
     ensures blanks { BlanksMatchNothing }
 {
     let far = plan.far(a)?;

@@ -1,4 +1,5 @@
 // What a station plan is: its parts, the interface by which the code above asks for them, and the laws.
+#![tactic(auto)]
 
 pub mod connection;
 pub mod interface;

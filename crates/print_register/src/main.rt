@@ -1,4 +1,5 @@
 // Reads a plan file from standard input and prints its route register.
+#![tactic(auto)]
 
 mod input;
 mod output;

@@ -22,7 +22,7 @@ pub struct Register<P> {
 
 // The first route of the plan, or the empty position where there is none.
 fn first_route<P: Plan>(plan: &P) -> Position
-    ensures { Stands (layout plan.now) [] (path_of result) }
+    ensures { Stands (P.layout plan.now) [] (path_of result) }
 {
     let mut next = Position::new();
     let _ = next_route(plan, &mut next);
@@ -33,7 +33,7 @@ impl<P: Plan> Register<P> {
     // Stands before the first route. The order in which the routes come is strict and total.
     pub fn new(plan: P) -> Register<P>
         ensures plan { result.plan ≡ plan }
-        ensures history { Handed (layout plan) [] result }
+        ensures history { Handed (P.layout plan) [] result }
         ensures order { StrictAndTotal }
     {
         let next = first_route(&plan);
@@ -54,7 +54,7 @@ impl<P: Plan> Register<P> {
     pub fn turn(&mut self, space: &mut [u8]) -> Result<usize, BoxFault>
         ensures plan { self.new.plan ≡ self.old.plan }
         ensures refused { is_ok result ≡ false → (self.new ≡ self.old) × (space.new ≡ space.old) }
-        ensures history { (rows : List (List ℕ)) → Handed (layout self.old.plan) rows self.old → Turned (layout self.old.plan) rows space.old space.new self.new result }
+        ensures history { (rows : List (List ℕ)) → Handed (P.layout self.old.plan) rows self.old → Turned (P.layout self.old.plan) rows space.old space.new self.new result }
     {
         if self.next.entries().is_empty() {
             return Err(BoxFault::Drained);
@@ -71,7 +71,7 @@ impl<P: Plan> Register<P> {
     // Stands before the first route again.
     pub fn restart(&mut self)
         ensures plan { self.new.plan ≡ self.old.plan }
-        ensures history { Handed (layout self.old.plan) [] self.new }
+        ensures history { Handed (P.layout self.old.plan) [] self.new }
     {
         self.next = first_route(&self.plan);
         self.handed = 0;

@@ -7,7 +7,7 @@ use plan::interface::Plan;
 
 // Whether the path ends as a route does.
 pub fn is_route<P: Plan>(plan: &P, at: &[u16]) -> bool
-    ensures { Begun (layout plan.now) at.now → MatchBool result (Ends (layout plan.now) at.now) (Ends (layout plan.now) at.now → ⊥) }
+    ensures { Begun (P.layout plan.now) at.now → MatchBool result (Ends (P.layout plan.now) at.now) (Ends (P.layout plan.now) at.now → ⊥) }
 {
     let n = at.len();
     if n < 2 {

@@ -1,4 +1,5 @@
 // Paths and routes of a plan.
+#![tactic(auto)]
 
 pub mod ends;
 pub mod steps;

@@ -14,7 +14,7 @@ pub struct Range {
 
 // The direction of a signal of the plan; none where the component is no such signal.
 pub fn signal<P: Plan>(plan: &P, component: u16) -> Option<Direction>
-    ensures { SignalAt (layout plan.now) component result }
+    ensures { SignalAt (P.layout plan.now) component result }
 {
     let Ok(kind) = plan.kind(component) else {
         return None;
@@ -54,7 +54,7 @@ fn lies(kind: Kind, side: Side) -> Range
 
 // The far port of the port by which the entry `last` is left, travelling `way`.
 fn beyond<P: Plan>(plan: &P, way: Direction, last: u16) -> Option<Port>
-    ensures { result ≡ (layout plan.now).far (exit_of (layout plan.now) way last) }
+    ensures { result ≡ (P.layout plan.now).far (exit_of (P.layout plan.now) way last) }
 {
     let component = last / 4;
     let Ok(kind) = plan.kind(component) else {
@@ -69,7 +69,7 @@ fn beyond<P: Plan>(plan: &P, way: Direction, last: u16) -> Option<Port>
 
 // The entries that may follow the entry `last`, travelling `way`. A blank port stops the path.
 pub fn onward<P: Plan>(plan: &P, way: Direction, last: u16) -> Option<Range>
-    ensures exact { Told (Follows (layout plan.now) way last) result }
+    ensures exact { Told (Follows (P.layout plan.now) way last) result }
     ensures small { IfSome result (λ x. x.high < 2048) }
 {
     let Some(port) = beyond(plan, way, last) else {

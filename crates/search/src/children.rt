@@ -10,7 +10,7 @@ use route::steps::{onward, signal};
 
 // The first entry of a signal from `from` on.
 fn next_start<P: Plan>(plan: &P, from: u16) -> Option<u16>
-    ensures { Least (Starts (layout plan.now)) from result }
+    ensures { Least (Starts (P.layout plan.now)) from result }
 {
     for component in 0..plan.count() {
         let entry = 4 * component;
@@ -23,7 +23,7 @@ fn next_start<P: Plan>(plan: &P, from: u16) -> Option<u16>
 
 // The first entry from `from` on that follows `last`.
 fn next_after<P: Plan>(plan: &P, way: Direction, last: u16, from: u16) -> Option<u16>
-    ensures { Least (Follows (layout plan.now) way last) from result }
+    ensures { Least (Follows (P.layout plan.now) way last) from result }
 {
     let Some(range) = onward(plan, way, last) else {
         return None;
@@ -36,7 +36,7 @@ fn next_after<P: Plan>(plan: &P, way: Direction, last: u16, from: u16) -> Option
 
 // The first entry from `from` on that comes next after the entries, leaving aside whether its component is new.
 fn next_entry<P: Plan>(plan: &P, at: &[u16], from: u16) -> Option<u16>
-    ensures least { Begun (layout plan.now) at.now → Least (Next (layout plan.now) at.now) from result }
+    ensures least { Begun (P.layout plan.now) at.now → Least (Next (P.layout plan.now) at.now) from result }
     ensures onward { IfSome result (λ e. from ≤ e) }
 {
     let n = at.len();
@@ -51,7 +51,7 @@ fn next_entry<P: Plan>(plan: &P, at: &[u16], from: u16) -> Option<u16>
 
 // Goes down to the least entry from `from` on that may stand after the path; false where there is none.
 pub fn descend<P: Plan>(plan: &P, at: &mut Position, from: u16) -> bool
-    ensures { Descended (layout plan.now) from at.old at.new result }
+    ensures { Descended (P.layout plan.now) from at.old at.new result }
 {
     let Some(e) = next_entry(plan, at.entries(), from) else {
         return false;

@@ -1,4 +1,5 @@
 // The search for the next route of a plan.
+#![tactic(auto)]
 
 pub mod children;
 mod flood;

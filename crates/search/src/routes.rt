@@ -20,7 +20,7 @@ const NO_ENTRY: u16 = 2_048;
 // The entry from which on a route may go on below the path.
 fn first_below<P: Plan>(plan: &P, at: &Position, steps_back: u16) -> u16
     ensures few { result ≤ 2048 }
-    ensures barren { BarrenBelow (layout plan.now) (path_of at.now) result }
+    ensures barren { BarrenBelow (P.layout plan.now) (path_of at.now) result }
 {
     if steps_back < PATIENCE || leads_on(plan, at) {
         0
@@ -31,7 +31,7 @@ fn first_below<P: Plan>(plan: &P, at: &Position, steps_back: u16) -> u16
 
 // Moves on to the first route after the path, in lexicographic order. Where there is none the path is empty.
 pub fn next_route<P: Plan>(plan: &P, at: &mut Position) -> bool
-    ensures { Begun (layout plan.now) (path_of at.old) → Found (layout plan.now) (path_of at.old) (path_of at.new) result }
+    ensures { Begun (P.layout plan.now) (path_of at.old) → Found (P.layout plan.now) (path_of at.old) (path_of at.new) result }
 {
     let mut from: u16 = 0;
     let mut steps_back: u16 = 0;

@@ -1,3 +1,4 @@
 // Sets of components, as bits in words.
+#![tactic(auto)]
 
 pub mod set;

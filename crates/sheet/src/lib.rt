@@ -1,4 +1,5 @@
 // The sheet: a station plan that is drawn in a space of component records which the caller lends.
+#![tactic(auto)]
 
 pub mod adding;
 pub mod asking;

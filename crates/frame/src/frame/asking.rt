@@ -12,7 +12,7 @@ use plan::parts::Position;
 impl Frame {
     // How a switch of the plan lies.
     pub fn position<P: Plan>(&self, plan: &P, switch: u16) -> Result<Position, BoxFault>
-        ensures { result ≡ told_position (layout plan.now) (view self.now) switch }
+        ensures { result ≡ told_position (P.layout plan.now) (view self.now) switch }
     {
         plan.section(switch)?;
         if self.reversed.contains(switch) {
@@ -24,7 +24,7 @@ impl Frame {
 
     // Whether a section of the plan is occupied.
     pub fn is_occupied<P: Plan>(&self, plan: &P, section: u16) -> Result<bool, BoxFault>
-        ensures { ToldOccupied (layout plan.now) (view self.now) section result }
+        ensures { ToldOccupied (P.layout plan.now) (view self.now) section result }
     {
         if !is_section(plan, section) {
             return Err(BoxFault::NoSuchSection);

@@ -12,7 +12,7 @@ use plan::interface::Plan;
 impl Frame {
     // A train is in the section.
     pub fn occupy<P: Plan>(&mut self, plan: &P, section: u16) -> Result<(), BoxFault>
-        ensures told { Marking (layout plan.now) section (refusal result) }
+        ensures told { Marking (P.layout plan.now) section (refusal result) }
         ensures refused { is_ok result ≡ false → self.new ≡ self.old }
         ensures after { is_ok result ≡ true → view self.new ≡ marked (view self.old) section true }
     {
@@ -25,7 +25,7 @@ impl Frame {
 
     // No train is in the section.
     pub fn clear<P: Plan>(&mut self, plan: &P, section: u16) -> Result<(), BoxFault>
-        ensures told { Marking (layout plan.now) section (refusal result) }
+        ensures told { Marking (P.layout plan.now) section (refusal result) }
         ensures refused { is_ok result ≡ false → self.new ≡ self.old }
         ensures after { is_ok result ≡ true → view self.new ≡ marked (view self.old) section false }
     {

@@ -23,7 +23,7 @@ const MOST_SLIPS: u16 = 65_535;
 impl Frame {
     // Opens a row where nothing speaks against it, and gives the slip that closes it. No switch moves.
     pub fn open<P: Plan>(&mut self, plan: &P, row: &[u8]) -> Result<Slip, BoxFault>
-        ensures told { Opening (layout plan.now) (view self.old) row.now (refusal result) }
+        ensures told { Opening (P.layout plan.now) (view self.old) row.now (refusal result) }
         ensures serial { IfOk result (λ s. s.serial ≡ (view self.old).given + 1) }
         ensures refused { is_ok result ≡ false → self.new ≡ self.old }
         ensures after { IfOk result (λ s. view self.new ≡ opened_with (view self.old) s.serial (entries_of row.now)) }
@@ -41,7 +41,7 @@ impl Frame {
 
     // The entries of a row that may be opened.
     fn admit<P: Plan>(&self, plan: &P, row: &[u8]) -> Result<Entries, BoxFault>
-        ensures told { Opening (layout plan.now) (view self.now) row.now (refusal result) }
+        ensures told { Opening (P.layout plan.now) (view self.now) row.now (refusal result) }
         ensures entries { IfOk result (λ x. entries x ≡ entries_of row.now) }
     {
         judge(plan, row)?;
@@ -54,7 +54,7 @@ impl Frame {
 
     // What on the frame hinders the route from being opened.
     fn hindrance<P: Plan>(&self, plan: &P, route: &[u16]) -> Option<BoxFault>
-        ensures { Standing (layout plan.now) (view self.now) route.now result }
+        ensures { Standing (P.layout plan.now) (view self.now) route.now result }
     {
         if conflicts(self.open_routes(), route) {
             return Some(BoxFault::Conflict);
@@ -98,7 +98,7 @@ impl Frame {
 
     // Whether the row runs over an occupied section.
     fn runs_occupied<P: Plan>(&self, plan: &P, row: &[u16]) -> bool
-        ensures { MatchBool result (RunsOccupied (layout plan.now) (view self.now) row.now) (RunsOccupied (layout plan.now) (view self.now) row.now → ⊥) }
+        ensures { MatchBool result (RunsOccupied (P.layout plan.now) (view self.now) row.now) (RunsOccupied (P.layout plan.now) (view self.now) row.now → ⊥) }
     {
         for e in row {
             if self.is_on_occupied(plan, *e / 4) {
@@ -109,7 +109,7 @@ impl Frame {
     }
 
     fn is_on_occupied<P: Plan>(&self, plan: &P, component: u16) -> bool
-        ensures { MatchBool result (OnOccupied (layout plan.now) (view self.now) component) (OnOccupied (layout plan.now) (view self.now) component → ⊥) }
+        ensures { MatchBool result (OnOccupied (P.layout plan.now) (view self.now) component) (OnOccupied (P.layout plan.now) (view self.now) component → ⊥) }
     {
         let Some(section) = section_of(plan, component) else {
             return false;

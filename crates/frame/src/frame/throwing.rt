@@ -13,7 +13,7 @@ use plan::parts::Position;
 impl Frame {
     // Lays a switch, unless it is on an open route or its point section is occupied.
     pub fn throw<P: Plan>(&mut self, plan: &P, switch: u16, to: Position) -> Result<(), BoxFault>
-        ensures told { Throwing (layout plan.now) (view self.old) switch (refusal result) }
+        ensures told { Throwing (P.layout plan.now) (view self.old) switch (refusal result) }
         ensures refused { is_ok result ≡ false → self.new ≡ self.old }
         ensures after { is_ok result ≡ true → view self.new ≡ laid (view self.old) switch to }
     {

@@ -13,7 +13,7 @@ use sets::set::ComponentSet;
 
 // Whether the component is a signal of the direction.
 fn guards<P: Plan>(plan: &P, way: Direction, component: u16) -> bool
-    ensures { result ≡ false → component < (layout plan.now).count → (layout plan.now).kind component ≢ SignalOf way }
+    ensures { result ≡ false → component < (P.layout plan.now).count → (P.layout plan.now).kind component ≢ SignalOf way }
 {
     let Some(direction) = signal(plan, component) else {
         return false;
@@ -24,7 +24,7 @@ fn guards<P: Plan>(plan: &P, way: Direction, component: u16) -> bool
 impl Flood {
     // Marks the component that comes next after the entry.
     fn mark<P: Plan>(&mut self, plan: &P, way: Direction, from: u16)
-        ensures { Marked (layout plan.now) way from self.old self.new }
+        ensures { Marked (P.layout plan.now) way from self.old self.new }
     {
         let Some(range) = onward(plan, way, from) else {
             return;
@@ -39,7 +39,7 @@ impl Flood {
 
     // Goes on from a component by every way out of it.
     fn go_on<P: Plan>(&mut self, plan: &P, way: Direction, component: u16)
-        ensures { GoneOn (layout plan.now) way component self.old self.new }
+        ensures { GoneOn (P.layout plan.now) way component self.old self.new }
     {
         if component >= 512 {
             return;
@@ -51,7 +51,7 @@ impl Flood {
 
     // Whether a signal of the direction is reached; where none is, the flood has gone on from all that it has seen.
     fn reaches_signal<P: Plan>(&mut self, plan: &P, way: Direction) -> bool
-        ensures { result ≡ false → Settled (layout plan.now) way self.old self.new × ((c : ℕ) → has self.new.waiting c ≡ 0) }
+        ensures { result ≡ false → Settled (P.layout plan.now) way self.old self.new × ((c : ℕ) → has self.new.waiting c ≡ 0) }
     {
         while let Some(component) = self.waiting.first() {
             if guards(plan, way, component) {
@@ -65,7 +65,7 @@ impl Flood {
 
 // Whether the path may still become a route: false only where no route goes on below it.
 pub(crate) fn leads_on<P: Plan>(plan: &P, at: &Position) -> bool
-    ensures { result ≡ false → Barren (layout plan.now) (path_of at.now) }
+    ensures { result ≡ false → Barren (P.layout plan.now) (path_of at.now) }
 {
     let path = at.entries();
     let n = path.len();

@@ -12,14 +12,14 @@ use plan::parts::Position;
 impl<P: Plan> SignalBox<P> {
     // How a switch of the plan lies.
     pub fn position(&self, switch: u16) -> Result<Position, BoxFault>
-        ensures { result ≡ told_position (layout self.now.register.plan) (view self.now.frame) switch }
+        ensures { result ≡ told_position (P.layout self.now.register.plan) (view self.now.frame) switch }
     {
         self.frame.position(self.register.plan(), switch)
     }
 
     // Whether a section of the plan is occupied.
     pub fn is_occupied(&self, section: u16) -> Result<bool, BoxFault>
-        ensures { ToldOccupied (layout self.now.register.plan) (view self.now.frame) section result }
+        ensures { ToldOccupied (P.layout self.now.register.plan) (view self.now.frame) section result }
     {
         self.frame.is_occupied(self.register.plan(), section)
     }

@@ -15,7 +15,7 @@ impl<P: Plan> SignalBox<P> {
     pub fn throw(&mut self, switch: u16, to: Position) -> Result<(), BoxFault>
         ensures plan { self.new.register.plan ≡ self.old.register.plan }
         ensures refused { is_ok result ≡ false → self.new ≡ self.old }
-        ensures journal { (j : Journal) → Kept (layout self.old.register.plan) j self.old → Noted (layout self.old.register.plan) j (Thrown switch to result) self.new }
+        ensures journal { (j : Journal) → Kept (P.layout self.old.register.plan) j self.old → Noted (P.layout self.old.register.plan) j (Thrown switch to result) self.new }
     {
         self.frame.throw(self.register.plan(), switch, to)
     }
@@ -24,7 +24,7 @@ impl<P: Plan> SignalBox<P> {
     pub fn occupy(&mut self, section: u16) -> Result<(), BoxFault>
         ensures plan { self.new.register.plan ≡ self.old.register.plan }
         ensures refused { is_ok result ≡ false → self.new ≡ self.old }
-        ensures journal { (j : Journal) → Kept (layout self.old.register.plan) j self.old → Noted (layout self.old.register.plan) j (Occupied section result) self.new }
+        ensures journal { (j : Journal) → Kept (P.layout self.old.register.plan) j self.old → Noted (P.layout self.old.register.plan) j (Occupied section result) self.new }
     {
         self.frame.occupy(self.register.plan(), section)
     }
@@ -33,7 +33,7 @@ impl<P: Plan> SignalBox<P> {
     pub fn clear(&mut self, section: u16) -> Result<(), BoxFault>
         ensures plan { self.new.register.plan ≡ self.old.register.plan }
         ensures refused { is_ok result ≡ false → self.new ≡ self.old }
-        ensures journal { (j : Journal) → Kept (layout self.old.register.plan) j self.old → Noted (layout self.old.register.plan) j (Cleared section result) self.new }
+        ensures journal { (j : Journal) → Kept (P.layout self.old.register.plan) j self.old → Noted (P.layout self.old.register.plan) j (Cleared section result) self.new }
     {
         self.frame.clear(self.register.plan(), section)
     }
@@ -42,7 +42,7 @@ impl<P: Plan> SignalBox<P> {
     pub fn open(&mut self, row: &[u8]) -> Result<Slip, BoxFault>
         ensures plan { self.new.register.plan ≡ self.old.register.plan }
         ensures refused { is_ok result ≡ false → self.new ≡ self.old }
-        ensures journal { (j : Journal) → Kept (layout self.old.register.plan) j self.old → Noted (layout self.old.register.plan) j (Opened row.now (serial_given result)) self.new }
+        ensures journal { (j : Journal) → Kept (P.layout self.old.register.plan) j self.old → Noted (P.layout self.old.register.plan) j (Opened row.now (serial_given result)) self.new }
     {
         self.frame.open(self.register.plan(), row)
     }
@@ -51,7 +51,7 @@ impl<P: Plan> SignalBox<P> {
     pub fn release(&mut self, slip: Slip) -> Result<(), (BoxFault, Slip)>
         ensures plan { self.new.register.plan ≡ self.old.register.plan }
         ensures kept { IfErr result (λ y. (y.1 ≡ slip) × (self.new ≡ self.old)) }
-        ensures journal { (j : Journal) → Kept (layout self.old.register.plan) j self.old → Noted (layout self.old.register.plan) j (Released slip.serial (unkept result)) self.new }
+        ensures journal { (j : Journal) → Kept (P.layout self.old.register.plan) j self.old → Noted (P.layout self.old.register.plan) j (Released slip.serial (unkept result)) self.new }
     {
         self.frame.release(slip)
     }

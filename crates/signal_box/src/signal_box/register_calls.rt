@@ -15,7 +15,7 @@ impl<P: Plan> SignalBox<P> {
     // journal demands of a call is one answer.
     pub fn new(plan: P) -> SignalBox<P>
         ensures plan { result.register.plan ≡ plan }
-        ensures journal { Kept (layout plan) unwritten result }
+        ensures journal { Kept (P.layout plan) unwritten result }
         ensures one { OneAnswer }
     {
         SignalBox {
@@ -34,7 +34,7 @@ impl<P: Plan> SignalBox<P> {
     pub fn turn(&mut self, space: &mut [u8]) -> Result<usize, BoxFault>
         ensures plan { self.new.register.plan ≡ self.old.register.plan }
         ensures refused { is_ok result ≡ false → (self.new ≡ self.old) × (space.new ≡ space.old) }
-        ensures journal { (j : Journal) → Kept (layout self.old.register.plan) j self.old → Noted (layout self.old.register.plan) j (Turned space.old space.new result) self.new }
+        ensures journal { (j : Journal) → Kept (P.layout self.old.register.plan) j self.old → Noted (P.layout self.old.register.plan) j (Turned space.old space.new result) self.new }
     {
         self.register.turn(space)
     }
@@ -42,7 +42,7 @@ impl<P: Plan> SignalBox<P> {
     // The register stands before the first route again.
     pub fn restart(&mut self)
         ensures plan { self.new.register.plan ≡ self.old.register.plan }
-        ensures journal { (j : Journal) → Kept (layout self.old.register.plan) j self.old → Noted (layout self.old.register.plan) j Restarted self.new }
+        ensures journal { (j : Journal) → Kept (P.layout self.old.register.plan) j self.old → Noted (P.layout self.old.register.plan) j Restarted self.new }
     {
         self.register.restart();
     }

@@ -19,11 +19,11 @@ returns-in-Ok g c =
       step = λ j kept.
           let N : ℕ → Type 0 = λ n. Noted l j (Opened s (Ok n)) x in
           step_opened l j x (serials pool) _ c.args.row s (Ok c.serial-serial.result) c.deref.ensures.value
-          (ap serials c.push-reserved.ensures.items ∙ map_push (λ (y : Slip). y.serial) pool c.in-Ok.slip ∙ ap (λ n. serials pool ++ n ∷ []) (sym told))
+          (ap serials c.push_reserved.ensures.items ∙ map_push (λ (y : Slip). y.serial) pool c.in-Ok.slip ∙ ap (λ n. serials pool ++ n ∷ []) (sym told))
           (subst N (sym told) (e.journal j kept));
       plan = e.plan;
-      len = let n = c.push-reserved.ensures.len in omega arith;
-      capacity = c.push-reserved.ensures.capacity;
+      len = let n = c.push_reserved.ensures.len in omega arith;
+      capacity = c.push_reserved.ensures.capacity;
     }
 
 pub returns : goal.returns

@@ -55,12 +55,12 @@ returns-in-Err g c =
       step = λ j kept.
           let N : ℕ → Type 0 = λ m. Noted l j (Released m (Err c.in-Err.fault)) x in
           step_released l j x (serials pool) _ k n (Err c.in-Err.fault) (simp length-map below) (told ∙ at)
-          (ap serials c.push-reserved.ensures.items
+          (ap serials c.push_reserved.ensures.items
           ∙ map_push (λ (y : Slip). y.serial) (vec_items c.remove-slip.new.self) c.in-Err.slip
           ∙ ap (λ (ns : List ℕ). ns ++ c.in-Err.slip.serial ∷ []) (serials_removed pool _ k c.remove-slip.ensures.items)
           ∙ ap (λ m. remove (serials pool) k ++ m ∷ []) (ap (λ (y : Slip). y.serial) e.kept.0 ∙ at))
           (subst N (sym told) (e.journal j kept));
       plan = e.plan;
-      len = let a = c.remove-slip.ensures.len in let b = c.push-reserved.ensures.len in omega arith;
-      capacity = c.push-reserved.ensures.capacity ∙ c.remove-slip.ensures.capacity;
+      len = let a = c.remove-slip.ensures.len in let b = c.push_reserved.ensures.len in omega arith;
+      capacity = c.push_reserved.ensures.capacity ∙ c.remove-slip.ensures.capacity;
     }

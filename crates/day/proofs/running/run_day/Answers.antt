@@ -17,15 +17,15 @@ returns g c =
     let p = serials (vec_items c.args.pool.now) in
     let q = serials (vec_items c.serve.new.pool) in
     let os = vec_items c.args.orders in
-    let rs = vec_items c.in-ok-answers.answers in
+    let rs = vec_items c.in_ok-answers.answers in
     let K : P → Type 0 = λ u. Kept (layout u) unwritten x in
     let S : P → Type 0 = λ u. Served (layout u) unwritten p os rs q c.serve.new.station in
-    let s = subst S made.plan (c.in-ok-answers.ensures.served unwritten (subst K (sym made.plan) made.journal)) in
+    let s = subst S made.plan (c.in_ok-answers.ensures.served unwritten (subst K (sym made.plan) made.journal)) in
     record {
       day = (
         s.0,
         chain_day P l unwritten p os rs s.0 q s.1,
-        ap view c.into-frame.ensures ∙ s.2.book,
+        ap view c.into_frame.ensures ∙ s.2.book,
         chain_throughout P l unwritten p os rs s.0 q s.1,
       );
       refused = tt;

@@ -11,7 +11,7 @@ pub loop-order-init : goal.loop-order-init
 loop-order-init g c =
     let l = g.P.Plan.layout c.args.station.now.register.plan in
     let p = serials (vec_items c.reserve.new.self) in
-    let empty : vec_items c.in-ok-answers.answers ≡ [] = search rules in (
+    let empty : vec_items c.in_ok-answers.answers ≡ [] = search rules in (
       tt,
       tt,
       λ j kept. let F : List Answer → Type 0 = λ rs. Served l j p [] rs p c.args.station.now in subst F (sym empty) (served_none l j p c.args.station.now kept),
@@ -26,9 +26,9 @@ loop-order-preserved g c = (
   tt,
   tt,
   λ j kept.
-      served_more g.P.Plan.layout _ _ j (serials (vec_items c.reserve.new.self)) c.loop-order.yielded (vec_items c.loop-order.answers) (vec_items c.push-reserved.new.self)
+      served_more g.P.Plan.layout _ _ j (serials (vec_items c.reserve.new.self)) c.loop-order.yielded (vec_items c.loop-order.answers) (vec_items c.push_reserved.new.self)
       (serials (vec_items c.loop-order.pool)) c.loop-order.station c.perform.new.station c.in-Some.order c.perform.result (serials (vec_items c.perform.new.pool))
-      c.loop-order.invariant.3 (c.loop-order.invariant.2 j kept) c.perform.ensures.step c.push-reserved.ensures.items,
+      c.loop-order.invariant.3 (c.loop-order.invariant.2 j kept) c.perform.ensures.step c.push_reserved.ensures.items,
   c.perform.ensures.plan ∙ c.loop-order.invariant.3,
   search rules,
   search rules,

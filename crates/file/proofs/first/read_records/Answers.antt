@@ -13,15 +13,15 @@ next s from i n k r e h = sym (h ∙ ap (λ m. first_failing (record_checks s (f
 pub loop-i-init : goal.loop-i-init
 loop-i-init c = each_none (nth_record c.args.bytes.now c.args.from c.args.sort)
 
-pub returns-in-err-read-record : goal.returns-in-err-read-record
-returns-in-err-read-record c =
+pub returns-in_err-read_record : goal.returns-in_err-read_record
+returns-in_err-read_record c =
     let f = nth_record c.args.bytes.now c.args.from c.args.sort in
-    let e = next c.args.bytes.now c.args.from c.loop-i.i c.size.result c.args.sort c.read-record.result c.size.ensures c.read-record.ensures in
-    let stop = each_stop c.args.count c.loop-i.i f c.in-err-read-record.field-0.0 (omega arith) c.loop-i.invariant (e ∙ c.in-err-read-record.was) in
+    let e = next c.args.bytes.now c.args.from c.loop-i.i c.size.result c.args.sort c.read_record.result c.size.ensures c.read_record.ensures in
+    let stop = each_stop c.args.count c.loop-i.i f c.in_err-read_record.field-0.0 (omega arith) c.loop-i.invariant (e ∙ c.in_err-read_record.was) in
     search rules
 
 pub loop-i-preserved : goal.loop-i-preserved
 loop-i-preserved c =
     let f = nth_record c.args.bytes.now c.args.from c.args.sort in
-    let e = next c.args.bytes.now c.args.from c.loop-i.i c.size.result c.args.sort c.read-record.result c.size.ensures c.read-record.ensures in
-    each_more c.loop-i.i f c.loop-i.invariant (e ∙ c.in-ok-read-record.was)
+    let e = next c.args.bytes.now c.args.from c.loop-i.i c.size.result c.args.sort c.read_record.result c.size.ensures c.read_record.ensures in
+    each_more c.loop-i.i f c.loop-i.invariant (e ∙ c.in_ok-read_record.was)

@@ -8,23 +8,23 @@ first_break : (c : goal.After-from-residual) → c.from-residual.result ≡ look
 unfolding look
 first_break c = search rules
 
-pub returns-in-err-first-reading : goal.returns-in-err-first-reading
-returns-in-err-first-reading c = record {
+pub returns-in_err-first_reading : goal.returns-in_err-first_reading
+returns-in_err-first_reading c = record {
   first = first_break c;
   accepted = accepted_exactly c.args.bytes.now c.from-residual.result (first_break c);
   means = means c.args.bytes.now c.from-residual.result (first_break c);
 }
 
-pub second-reading-requires : goal.second-reading-requires
-second-reading-requires c = (read_whole c.contents-file.result.bytes.now (sym c.in-ok-first-reading.ensures)).few
+pub second_reading-requires : goal.second_reading-requires
+second_reading-requires c = (read_whole c.contents-file.result.bytes.now (sym c.in_ok-first_reading.ensures)).few
 
-first_end : (c : goal.After-second-reading) → c.second-reading.result ≡ look c.args.bytes.now
+first_end : (c : goal.After-second_reading) → c.second_reading.result ≡ look c.args.bytes.now
 unfolding look
 first_end c = search rules
 
 pub returns : goal.returns
 returns c = record {
   first = first_end c;
-  accepted = accepted_exactly c.args.bytes.now c.second-reading.result (first_end c);
-  means = means c.args.bytes.now c.second-reading.result (first_end c);
+  accepted = accepted_exactly c.args.bytes.now c.second_reading.result (first_end c);
+  means = means c.args.bytes.now c.second_reading.result (first_end c);
 }

@@ -2,6 +2,6 @@ use Rattle.std.proofs.Common.{rules}
 use Rattle.file.specs.Contents.{signal_count, switch_count, straight_count, section_count}
 use Rattle.file.proofs.reading.contents.Goals as goal
 
-pub invariant-of-result : goal.invariant-of-result
+pub invariant_of-result : goal.invariant_of-result
 unfolding signal_count switch_count straight_count section_count
-invariant-of-result c = (c.number-at-signals.ensures, (search rules, (search rules, (search rules, tt))))
+invariant_of-result c = (c.number_at-signals.ensures, (search rules, (search rules, (search rules, tt))))

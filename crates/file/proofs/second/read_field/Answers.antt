@@ -4,7 +4,7 @@ use Rattle.file.proofs.second.read_field.Goals as goal
 
 pub returns-in-Some : goal.returns-in-Some
 returns-in-Some c =
-    c.read-named.ensures ∙ sym (field_named c.args.file.now.bytes.now c.args.port c.in-Some.named (sym c.in-Some.ensures))
+    c.read_named.ensures ∙ sym (field_named c.args.file.now.bytes.now c.args.port c.in-Some.named (sym c.in-Some.ensures))
 
 pub returns-in-None : goal.returns-in-None
 returns-in-None c =

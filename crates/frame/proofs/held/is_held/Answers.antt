@@ -5,12 +5,12 @@ use Rattle.frame.specs.View.{open_row, open_rows}
 use Rattle.frame.proofs.Opens.{entries_at}
 use Rattle.frame.proofs.held.is_held.Goals as goal
 
-pub returns-then-is-on : goal.returns-then-is-on
-returns-then-is-on c =
+pub returns-then-is_on : goal.returns-then-is_on
+returns-then-is_on c =
     let rs = c.args.routes.now in
     let h : c.loop-route.route-index < length rs = omega arith in
     let F : List ℕ → Type 0 = λ es. OnRow es c.args.component in
-    (c.loop-route.route-index, simp length-map h, subst F (entries_at rs _ c.route-item.result _ h c.route-item.is c.entries.ensures) c.if-is-on.ensures)
+    (c.loop-route.route-index, simp length-map h, subst F (entries_at rs _ c.route-item.result _ h c.route-item.is c.entries.ensures) c.if-is_on.ensures)
 
 pub loop-route-preserved : goal.loop-route-preserved
 loop-route-preserved c =
@@ -18,7 +18,7 @@ loop-route-preserved c =
     let h : c.loop-route.route-index < length rs = omega arith in
     let F : List ℕ → Type 0 = λ es. OnRow es c.args.component in
     below_more (λ k. OnRow (get_or (open_rows rs) k no_row).entries c.args.component → ⊥) _ c.loop-route.invariant
-    (λ on. c.if-is-on.ensures (subst F (sym (entries_at rs _ c.route-item.result _ h c.route-item.is c.entries.ensures)) on))
+    (λ on. c.if-is_on.ensures (subst F (sym (entries_at rs _ c.route-item.result _ h c.route-item.is c.entries.ensures)) on))
 
 pub returns : goal.returns
 returns c = λ h.

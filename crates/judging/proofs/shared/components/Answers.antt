@@ -10,9 +10,9 @@ loop-e-init c = gathers_none c.new-set.result c.new-set.ensures
 pub loop-e-preserved : goal.loop-e-preserved
 loop-e-preserved c =
     let i = c.loop-e.e-index in
-    let small = c.as-slice-all.ensures.small i (omega arith) in
-    gathers_more c.loop-e.set c.insert.new.self c.as-slice-all.result.now i c.loop-e.invariant (omega arith) (omega arith) c.insert.ensures
+    let small = c.as_slice-all.ensures.small i (omega arith) in
+    gathers_more c.loop-e.set c.insert.new.self c.as_slice-all.result.now i c.loop-e.invariant (omega arith) (omega arith) c.insert.ensures
 
 pub returns : goal.returns
 returns c = λ k.
-    c.loop-e.invariant k ∙ ap (on k) (take_all c.loop-e.e-index c.as-slice-all.result.now (omega arith) ∙ c.as-slice-all.ensures.value)
+    c.loop-e.invariant k ∙ ap (on k) (take_all c.loop-e.e-index c.as_slice-all.result.now (omega arith) ∙ c.as_slice-all.ensures.value)

@@ -4,12 +4,12 @@ use Rattle.route.specs.Growth.{Begun}
 use Rattle.judging.proofs.Gathered.{gathers_none, gathers_new, gathers_old}
 use Rattle.judging.proofs.Walks.{kept_more, step_in, step_out}
 use Rattle.judging.proofs.walking.walked.Goals as goal
-use Rattle.judging.proofs.walking.walked.Goals.{then_not_follows_via_then_not_follows, then_not_follows_via_else_not_follows+then_contains}
+use Rattle.judging.proofs.walking.walked.Goals.{then-not-follows-via-then-not-follows, then-not-follows-via-else-not-follows+then-contains}
 
 pub loop-i-init : goal.loop-i-init
 loop-i-init g c =
     let p = c.args.plan.now in
-    let some = eqb-false (length c.args.row.now) 0 (sym c.if-is-empty.ensures) in
+    let some = eqb-false (length c.args.row.now) 0 (sym c.if-is_empty.ensures) in
     kept_more (g.P.Plan.layout p) (g.P.Plan.lawful p) c.args.row.now 0 c.new-seen.result c.insert.new.self
     ((λ i h. absurd (omega arith)), gathers_none c.new-seen.result c.new-seen.ensures)
     (omega arith) (c.in-Some.ensures.0, λ k h. absurd (omega arith)) c.insert.ensures
@@ -24,9 +24,9 @@ returns-then-not-follows g c =
       begun = c.loop-i.invariant.0;
       stops = λ h m.
           elim c.then-not-follows.branch [
-            | then_not_follows_via_then_not_follows w ↦
+            | then-not-follows-via-then-not-follows w ↦
                 w.if-not-follows.ensures (step_out (g.P.Plan.layout p) (g.P.Plan.lawful p) es c.in-Some.way c.in-Some.ensures.1 i (omega arith) h m.0)
-            | then_not_follows_via_else_not_follows+then_contains w ↦
+            | then-not-follows-via-else-not-follows+then-contains w ↦
                 gathers_old c.loop-i.seen (take i es) (get_or es i 0) c.loop-i.invariant.1 (eqb-true _ 1 (sym w.if-contains.ensures)) m.1
           ];
     }
@@ -45,6 +45,6 @@ loop-i-preserved g c =
 pub returns : goal.returns
 returns g c =
     let es = c.args.row.now in
-    let some = eqb-false (length es) 0 (sym c.if-is-empty.ensures) in
+    let some = eqb-false (length es) 0 (sym c.if-is_empty.ensures) in
     let N : ℕ → Type 0 = λ n. Begun (g.P.Plan.layout c.args.plan.now) (take n es) in
     record { within = omega arith; begun = subst N (let e : c.loop-i.i ≡ length es = omega arith in e) c.loop-i.invariant.0; stops = λ h m. omega arith }

@@ -19,14 +19,14 @@ returns c =
     let s = c.args.space.now in
     let w = c.args.word.now in
     let d = decimal c.args.count in
-    let at = c.put-number-at.result in
+    let at = c.put_number-at.result in
     let l = length-append w (d ++ 10 ∷ []) in
     let m = length-append d (10 ∷ []) in
     let k = length-append w d in
     let long = long_enough (w ++ (d ++ (10 ∷ []))) s (omega arith) in
-    let size : length w + c.digit-count.result + 1 ≡ length (w ++ (d ++ (10 ∷ []))) = omega arith in
-    let one : c.put-number-at.new.space ≡ put s 0 (w ++ d) =
-    c.put-number-at.ensures.left ∙ ap (λ x. put x (length w) d) c.put-front.ensures ∙ text_next s w d (length w) refl (omega arith) in
+    let size : length w + c.digit_count.result + 1 ≡ length (w ++ (d ++ (10 ∷ []))) = omega arith in
+    let one : c.put_number-at.new.space ≡ put s 0 (w ++ d) =
+    c.put_number-at.ensures.left ∙ ap (λ x. put x (length w) d) c.put_front.ensures ∙ text_next s w d (length w) refl (omega arith) in
     record {
       told = ap Ok size ∙ long.0;
       left = ap (λ x. set x at 10) one ∙ byte_next s (w ++ d) at 10 (omega arith) (omega arith) ∙ ap (put s 0) (append_assoc w d (10 ∷ [])) ∙ long.1;

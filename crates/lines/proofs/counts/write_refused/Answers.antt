@@ -32,16 +32,16 @@ returns c =
     let rn = length-append r n in
     let rns = length-append (r ++ n) (32 ∷ []) in
     let rnsp = length-append ((r ++ n) ++ 32 ∷ []) p in
-    let at = c.put-number-at.result in
-    let end = c.put-number-at-2.result in
-    let one : c.put-number-at.new.space ≡ put s 0 (r ++ n) =
-    c.put-number-at.ensures.left ∙ ap (λ x. put x 8 n) c.put-front.ensures ∙ text_next s r n 8 refl (omega arith) in
-    let two : set c.put-number-at.new.space at 32 ≡ put s 0 ((r ++ n) ++ 32 ∷ []) =
+    let at = c.put_number-at.result in
+    let end = c.put_number-at-2.result in
+    let one : c.put_number-at.new.space ≡ put s 0 (r ++ n) =
+    c.put_number-at.ensures.left ∙ ap (λ x. put x 8 n) c.put_front.ensures ∙ text_next s r n 8 refl (omega arith) in
+    let two : set c.put_number-at.new.space at 32 ≡ put s 0 ((r ++ n) ++ 32 ∷ []) =
     ap (λ x. set x at 32) one ∙ byte_next s (r ++ n) at 32 (omega arith) (omega arith) in
-    let three : c.put-number-at-2.new.space ≡ put s 0 (((r ++ n) ++ 32 ∷ []) ++ p) =
-    c.put-number-at-2.ensures.left ∙ ap (λ x. put x (at + 1) p) two ∙ text_next s ((r ++ n) ++ 32 ∷ []) p (at + 1) (omega arith) (omega arith) in
+    let three : c.put_number-at-2.new.space ≡ put s 0 (((r ++ n) ++ 32 ∷ []) ++ p) =
+    c.put_number-at-2.ensures.left ∙ ap (λ x. put x (at + 1) p) two ∙ text_next s ((r ++ n) ++ 32 ∷ []) p (at + 1) (omega arith) (omega arith) in
     let long = long_enough line s (omega arith) in
-    let size : 10 + c.digit-count.result + c.digit-count-2.result ≡ length line = omega arith in
+    let size : 10 + c.digit_count.result + c.digit_count-2.result ≡ length line = omega arith in
     record {
       told = ap Ok size ∙ long.0;
       left = ap (λ x. set x end 10) three

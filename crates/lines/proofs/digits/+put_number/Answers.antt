@@ -17,14 +17,14 @@ returns-then-n-lt10 t c =
     let l = ap length e in
     record { next = omega arith; left = put_one s at (digit n) (omega arith) ∙ ap (put s at) (sym e) }
 
-pub put-number-last-requires : goal.put-number-last-requires
-put-number-last-requires t c = let e = length_step c.args.n (omega arith) in (omega arith, omega arith)
+pub put_number-last-requires : goal.put_number-last-requires
+put_number-last-requires t c = let e = length_step c.args.n (omega arith) in (omega arith, omega arith)
 
 pub bounds-space-last : goal.bounds-space-last
 bounds-space-last t c = let e = length_step c.args.n (omega arith) in omega arith
 
-pub overflow-add-result-2 : goal.overflow-add-result-2
-overflow-add-result-2 t c = let e = length_step c.args.n (omega arith) in omega arith
+pub overflow_add-result-2 : goal.overflow_add-result-2
+overflow_add-result-2 t c = let e = length_step c.args.n (omega arith) in omega arith
 
 pub returns : goal.returns
 returns t c =
@@ -36,8 +36,8 @@ returns t c =
     let l = length_step n (omega arith) in
     record {
       next = omega arith;
-      left = ap (λ x. set x c.put-number-last.result (digit (n % 10))) c.put-number-last.ensures.left
-          ∙ ap (λ p. set (put s at front) p (digit (n % 10))) c.put-number-last.ensures.next
+      left = ap (λ x. set x c.put_number-last.result (digit (n % 10))) c.put_number-last.ensures.left
+          ∙ ap (λ p. set (put s at front) p (digit (n % 10))) c.put_number-last.ensures.next
           ∙ put_then s at front (digit (n % 10)) (omega arith)
           ∙ ap (put s at) (sym e);
     }

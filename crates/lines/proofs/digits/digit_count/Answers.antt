@@ -3,8 +3,8 @@ use Rattle.lines.specs.Decimal.{decimal}
 use Rattle.lines.proofs.Decimals.{decimal_digit, length_step, length_decimal}
 use Rattle.lines.proofs.digits.digit_count.Goals as goal
 
-pub overflow-add-count : goal.overflow-add-count
-overflow-add-count c =
+pub overflow_add-count : goal.overflow_add-count
+overflow_add-count c =
     let few = length_decimal c.args.n (omega arith) in let e = length_step c.loop-left.left (omega arith) in omega arith
 
 pub loop-left-preserved : goal.loop-left-preserved

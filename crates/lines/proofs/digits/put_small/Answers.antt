@@ -16,8 +16,8 @@ returns-then-n-lt10 c =
     let l = ap length e in
     record { next = omega arith; left = put_one s at (digit c.args.n) (omega arith) ∙ ap (put s at) (sym e) }
 
-pub put-pair-requires : goal.put-pair-requires
-put-pair-requires c = let l = ap length (decimal_two c.args.n (omega arith) (omega arith)) in (omega arith, omega arith)
+pub put_pair-requires : goal.put_pair-requires
+put_pair-requires c = let l = ap length (decimal_two c.args.n (omega arith) (omega arith)) in (omega arith, omega arith)
 
 pub returns-then-n-lt100 : goal.returns-then-n-lt100
 returns-then-n-lt100 c =
@@ -29,14 +29,14 @@ returns-then-n-lt100 c =
     let d : n / 10 ≡ n / 10 % 10 = omega arith in
     record {
       next = omega arith;
-      left = c.put-pair.ensures ∙ ap (λ k. put s at (digit k ∷ (digit (n % 10) ∷ []))) d ∙ ap (put s at) (sym e);
+      left = c.put_pair.ensures ∙ ap (λ k. put s at (digit k ∷ (digit (n % 10) ∷ []))) d ∙ ap (put s at) (sym e);
     }
 
 pub bounds-space-at-2 : goal.bounds-space-at-2
 bounds-space-at-2 c = let l = ap length (decimal_three c.args.n (omega arith) (omega arith)) in omega arith
 
-pub put-pair-requires-2 : goal.put-pair-requires-2
-put-pair-requires-2 c =
+pub put_pair-requires-2 : goal.put_pair-requires-2
+put_pair-requires-2 c =
     let l = ap length (decimal_three c.args.n (omega arith) (omega arith)) in (omega arith, simp length-set (omega arith))
 
 pub returns : goal.returns
@@ -52,7 +52,7 @@ returns c =
     let pair = digit (n % 100 / 10) ∷ (digit (n % 100 % 10) ∷ []) in
     record {
       next = omega arith;
-      left = c.put-pair-2.ensures
+      left = c.put_pair-2.ensures
           ∙ ap (λ x. put x (at + 1) pair) (put_one s at first (omega arith))
           ∙ put_more s at (first ∷ []) pair (omega arith)
           ∙ ap (λ k. put s at (first ∷ (digit k ∷ (digit (n % 100 % 10) ∷ [])))) tens

@@ -3,22 +3,22 @@ use Rattle.row.specs.Put.{put}
 use Rattle.lines.specs.Decimal.{decimal}
 use Rattle.lines.proofs.Shown.{length_cell, put_lie}
 use Rattle.lines.proofs.rows.put_entry.Goals as goal
-use Rattle.lines.proofs.rows.put_entry.Goals.{then_lie_eq1, else_lie_eq1}
+use Rattle.lines.proofs.rows.put_entry.Goals.{then-lie-eq1, else-lie-eq1}
 
-pub put-small-letter-at-requires : goal.put-small-letter-at-requires
-put-small-letter-at-requires c = let l = length_cell c.args.e (omega arith) in (omega arith, omega arith)
+pub put_small-letter_at-requires : goal.put_small-letter_at-requires
+put_small-letter_at-requires c = let l = length_cell c.args.e (omega arith) in (omega arith, omega arith)
 
-pub bounds-space-letter-at : goal.bounds-space-letter-at
-bounds-space-letter-at c = let l = length_cell c.args.e (omega arith) in omega arith
+pub bounds-space-letter_at : goal.bounds-space-letter_at
+bounds-space-letter_at c = let l = length_cell c.args.e (omega arith) in omega arith
 
-pub overflow-add-end : goal.overflow-add-end
-overflow-add-end c = let l = length_cell c.args.e (omega arith) in omega arith
+pub overflow_add-end : goal.overflow_add-end
+overflow_add-end c = let l = length_cell c.args.e (omega arith) in omega arith
 
 pub bounds-space-end : goal.bounds-space-end
 bounds-space-end c = let l = length_cell c.args.e (omega arith) in simp length-set (omega arith)
 
-pub overflow-add-result : goal.overflow-add-result
-overflow-add-result c = let l = length_cell c.args.e (omega arith) in omega arith
+pub overflow_add-result : goal.overflow_add-result
+overflow_add-result c = let l = length_cell c.args.e (omega arith) in omega arith
 
 pub returns : goal.returns
 returns c =
@@ -30,13 +30,13 @@ returns c =
     let l = length_cell e (omega arith) in
     let m : c.min.result ≡ min (e % 4) 1 = c.min.ensures ∙ ap (λ k. min k 1) c.from.ensures in
     let normal : e % 4 ≡ 1 → x ≡ 78 =
-    elim c.if-lie-eq1.branch [ then_lie_eq1 w ↦ λ q. w.space-is | else_lie_eq1 w ↦ λ q. absurd (w.if-lie-eq1.false q) ] in
+    elim c.if-lie-eq1.branch [ then-lie-eq1 w ↦ λ q. w.space-is | else-lie-eq1 w ↦ λ q. absurd (w.if-lie-eq1.false q) ] in
     let reverse : e % 4 ≢ 1 → x ≡ 82 =
-    elim c.if-lie-eq1.branch [ then_lie_eq1 w ↦ λ q. absurd (q w.if-lie-eq1.true) | else_lie_eq1 w ↦ λ q. w.space-is ] in
+    elim c.if-lie-eq1.branch [ then-lie-eq1 w ↦ λ q. absurd (q w.if-lie-eq1.true) | else-lie-eq1 w ↦ λ q. w.space-is ] in
     record {
       next = omega arith;
-      left = ap (λ y. set (set y c.put-small-letter-at.result x) (c.put-small-letter-at.result + c.min.result) 32) c.put-small-letter-at.ensures.left
-          ∙ ap (λ p. set (set (put s at d) p x) (p + c.min.result) 32) c.put-small-letter-at.ensures.next
+      left = ap (λ y. set (set y c.put_small-letter_at.result x) (c.put_small-letter_at.result + c.min.result) 32) c.put_small-letter_at.ensures.left
+          ∙ ap (λ p. set (set (put s at d) p x) (p + c.min.result) 32) c.put_small-letter_at.ensures.next
           ∙ ap (λ k. set (set (put s at d) (at + length d) x) (at + length d + k) 32) m
           ∙ put_lie s at e x (omega arith) normal reverse (omega arith);
     }

@@ -15,8 +15,8 @@ pub loop-i-init : goal.loop-i-init
 loop-i-init c = (sym (put_none c.args.space.now 0), refl)
 
 -- what a turn of the loop has room for
-pub put-entry-at-requires : goal.put-entry-at-requires
-put-entry-at-requires c =
+pub put_entry-at-requires : goal.put_entry-at-requires
+put_entry-at-requires c =
     let s = c.args.row.now in
     let es = entries_of s in
     let i = c.loop-i.i in
@@ -27,7 +27,7 @@ put-entry-at-requires c =
     let step = ap length (cells_more s i (omega arith)) ∙ length-append (flat_map cell (take i es)) (cell e) in
     let front = cells_front es (i + 1) in
     let all = length_cells es in
-    let same : length (cell c.known-entry.result) ≡ length (cell e) = ap (λ x. length (cell x)) c.known-entry.ensures in
+    let same : length (cell c.known_entry.result) ≡ length (cell e) = ap (λ x. length (cell x)) c.known_entry.ensures in
     (omega arith, (omega arith, omega arith))
 
 pub loop-i-preserved : goal.loop-i-preserved
@@ -42,9 +42,9 @@ loop-i-preserved c =
     let front = cells_front es i in
     let all = length_cells es in
     let step = ap length more ∙ length-append done (cell e) in
-    let same : length (cell c.known-entry.result) ≡ length (cell e) = ap (λ x. length (cell x)) c.known-entry.ensures in (
-      c.put-entry-at.ensures.left
-          ∙ ap (λ x. put c.loop-i.space at (cell x)) c.known-entry.ensures
+    let same : length (cell c.known_entry.result) ≡ length (cell e) = ap (λ x. length (cell x)) c.known_entry.ensures in (
+      c.put_entry-at.ensures.left
+          ∙ ap (λ x. put c.loop-i.space at (cell x)) c.known_entry.ensures
           ∙ ap (λ x. put x at (cell e)) c.loop-i.invariant.0
           ∙ text_next c.args.space.now done (cell e) at c.loop-i.invariant.1 (omega arith)
           ∙ ap (put c.args.space.now 0) (sym more),
@@ -71,8 +71,8 @@ some c =
     let last = (line_ends c.args.space.now es (omega arith) (omega arith)).0 in
     (omega arith, omega arith)
 
-pub overflow-sub-space : goal.overflow-sub-space
-overflow-sub-space c = (some c).0
+pub overflow_sub-space : goal.overflow_sub-space
+overflow_sub-space c = (some c).0
 
 pub bounds-space-at : goal.bounds-space-at
 bounds-space-at c = let h = some c in let low : 0 < c.loop-i.at = h.0 in let high : c.loop-i.at ≤ length c.args.space.now = h.1 in omega arith

@@ -3,14 +3,14 @@ use Rattle.lines.specs.Decimal.{decimal}
 use Rattle.lines.specs.Lines.{shown}
 use Rattle.lines.proofs.Shown.{shown_plain, length_normal, length_reverse}
 use Rattle.lines.proofs.rows.shown_count.Goals as goal
-use Rattle.lines.proofs.rows.shown_count.Goals.{then_e_eq1_via_then_e_eq1, then_e_eq1_via_else_e_eq1+then_e_eq2}
+use Rattle.lines.proofs.rows.shown_count.Goals.{then-e-eq1-via-then-e-eq1, then-e-eq1-via-else-e-eq1+then-e-eq2}
 
 pub returns-then-e-eq1 : goal.returns-then-e-eq1
 returns-then-e-eq1 c =
     let l : length (shown c.args.e) ≡ length (decimal (c.args.e / 4)) + 1 =
     elim c.then-e-eq1.branch [
-      | then_e_eq1_via_then_e_eq1 w ↦ length_normal c.args.e w.if-e-eq1.true
-      | then_e_eq1_via_else_e_eq1+then_e_eq2 w ↦ length_reverse c.args.e w.if-e-eq2.true
+      | then-e-eq1-via-then-e-eq1 w ↦ length_normal c.args.e w.if-e-eq1.true
+      | then-e-eq1-via-else-e-eq1+then-e-eq2 w ↦ length_reverse c.args.e w.if-e-eq2.true
     ] in
     record { value = omega arith; few = omega arith }
 

@@ -4,10 +4,10 @@ use Rattle.route.specs.Paths.{leaves_by}
 use Rattle.route.proofs.Following.{none_beyond}
 use Rattle.route.proofs.steps.beyond.Goals as goal
 
-pub returns-in-default : goal.returns-in-default
-returns-in-default g c =
+pub returns-in_default : goal.returns-in_default
+returns-in_default g c =
     let p = c.args.plan.now in
-    sym (none_beyond (g.P.Plan.layout p) (g.P.Plan.lawful p) _ (kind_refused (g.P.Plan.layout p) _ _ c.in-default.ensures))
+    sym (none_beyond (g.P.Plan.layout p) (g.P.Plan.lawful p) _ (kind_refused (g.P.Plan.layout p) _ _ c.in_default.ensures))
 
 pub returns : goal.returns
 returns g c =

@@ -4,29 +4,29 @@ use Rattle.plan.proofs.Tellings.{kind_given, kind_refused}
 use Rattle.route.proofs.Following.{follows_exactly}
 use Rattle.route.proofs.steps.onward.Goals as goal
 
-pub returns-in-default-kind : goal.returns-in-default-kind
-returns-in-default-kind g c =
+pub returns-in_default-kind : goal.returns-in_default-kind
+returns-in_default-kind g c =
     let p = c.args.plan.now in
     let below = far_below (g.P.Plan.layout p) (g.P.Plan.lawful p) _ c.in-Some.port (sym c.in-Some.ensures) in
-    let past = kind_refused (g.P.Plan.layout p) _ _ c.in-default-kind.ensures in
+    let past = kind_refused (g.P.Plan.layout p) _ _ c.in_default-kind.ensures in
     record { exact = λ e h. omega arith; small = tt }
 
-pub overflow-mul-base : goal.overflow-mul-base
-overflow-mul-base g c =
+pub overflow_mul-base : goal.overflow_mul-base
+overflow_mul-base g c =
     let few = (g.P.Plan.lawful c.args.plan.now).few in
     let below = (kind_given (g.P.Plan.layout c.args.plan.now) _ _ c.in-Ok.ensures).0 in
     omega arith
 
-pub overflow-add-result : goal.overflow-add-result
-overflow-add-result g c =
+pub overflow_add-result : goal.overflow_add-result
+overflow_add-result g c =
     let few = (g.P.Plan.lawful c.args.plan.now).few in
     let below = (kind_given (g.P.Plan.layout c.args.plan.now) _ _ c.in-Ok.ensures).0 in
     let low = c.lies-lies.ensures.exact.some in
     let high = c.lies-lies.ensures.small in
     omega arith
 
-pub overflow-add-result-2 : goal.overflow-add-result-2
-overflow-add-result-2 g c =
+pub overflow_add-result-2 : goal.overflow_add-result-2
+overflow_add-result-2 g c =
     let few = (g.P.Plan.lawful c.args.plan.now).few in
     let below = (kind_given (g.P.Plan.layout c.args.plan.now) _ _ c.in-Ok.ensures).0 in
     let high = c.lies-lies.ensures.small in

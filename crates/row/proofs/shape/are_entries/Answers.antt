@@ -7,7 +7,7 @@ pub loop-e-preserved : goal.loop-e-preserved
 loop-e-preserved c =
     let row = c.args.row.now in
     let i = c.loop-e.e-index in
-    ap (λ b. (c.loop-e.good && b) && all_ok (drop (i + 1) row)) c.is-entry-good.ensures
+    ap (λ b. (c.loop-e.good && b) && all_ok (drop (i + 1) row)) c.is_entry-good.ensures
     ∙ good_more row i c.loop-e.good (omega arith) c.loop-e.invariant
 
 pub returns : goal.returns

@@ -14,7 +14,7 @@ loop-i-preserved c =
     let i = c.loop-i.i in
     let n = length_entries s in
     let e = entry_at s i (omega arith) in
-    ap (λ b. (c.loop-i.good && b) && all_ok (drop (i + 1) (entries_of s))) (c.is-entry-good.ensures ∙ ap entry_ok (c.known-entry.ensures ∙ sym e))
+    ap (λ b. (c.loop-i.good && b) && all_ok (drop (i + 1) (entries_of s))) (c.is_entry-good.ensures ∙ ap entry_ok (c.known_entry.ensures ∙ sym e))
     ∙ good_more (entries_of s) i c.loop-i.good (omega arith) c.loop-i.invariant
 
 pub returns : goal.returns

@@ -1,10 +1,10 @@
 use Rattle.search.proofs.Descents.{stayed, descended}
 use Rattle.search.proofs.children.descend.Goals as goal
 
-pub returns-in-default : goal.returns-in-default
-returns-in-default g c =
+pub returns-in_default : goal.returns-in_default
+returns-in_default g c =
     let p = c.args.plan.now in
-    stayed (g.P.Plan.layout p) (g.P.Plan.lawful p) c.args.from c.args.at.now c.entries.result.now c.entries.ensures.value c.in-default.ensures.least
+    stayed (g.P.Plan.layout p) (g.P.Plan.lawful p) c.args.from c.args.at.now c.entries.result.now c.entries.ensures.value c.in_default.ensures.least
 
 pub returns : goal.returns
 returns g c =

@@ -7,29 +7,29 @@ use Rattle.search.proofs.routes.next_route.Goals as goal
 pub loop-at-init : goal.loop-at-init
 loop-at-init g c = (omega arith, ahead_start (g.P.Plan.layout c.args.plan.now) (path_of c.args.at.now))
 
-pub returns-then-is-route : goal.returns-then-is-route
-returns-then-is-route g c =
+pub returns-then-is_route : goal.returns-then-is_route
+returns-then-is_route g c =
     turn_hit (g.P.Plan.layout c.args.plan.now) (path_of c.args.at.now) c.loop-at.at c.loop-at.from c.loop-at.invariant
-    c.descend.new.at c.if-descend.ensures c.entries.result.now c.entries.ensures.value c.if-is-route.ensures
+    c.descend.new.at c.if-descend.ensures c.entries.result.now c.entries.ensures.value c.if-is_route.ensures
 
 pub loop-at-smaller-then-descend : goal.loop-at-smaller-then-descend
 loop-at-smaller-then-descend g c =
     turn_down_less (g.P.Plan.layout c.args.plan.now) (path_of c.args.at.now) c.loop-at.at c.loop-at.from c.loop-at.invariant
-    c.descend.new.at c.if-descend.ensures c.entries.result.now c.entries.ensures.value c.first-below-from.result
+    c.descend.new.at c.if-descend.ensures c.entries.result.now c.entries.ensures.value c.first_below-from.result
 
 pub loop-at-preserved-then-descend : goal.loop-at-preserved-then-descend
 loop-at-preserved-then-descend g c =
     turn_down (g.P.Plan.layout c.args.plan.now) (path_of c.args.at.now) c.loop-at.at c.loop-at.from c.loop-at.invariant
-    c.descend.new.at c.if-descend.ensures c.entries.result.now c.entries.ensures.value c.if-is-route.ensures
-    c.first-below-from.result c.first-below-from.ensures.few c.first-below-from.ensures.barren
+    c.descend.new.at c.if-descend.ensures c.entries.result.now c.entries.ensures.value c.if-is_route.ensures
+    c.first_below-from.result c.first_below-from.ensures.few c.first_below-from.ensures.barren
 
-pub returns-in-default : goal.returns-in-default
-returns-in-default g c =
+pub returns-in_default : goal.returns-in_default
+returns-in_default g c =
     turn_over (g.P.Plan.layout c.args.plan.now) (path_of c.args.at.now) c.loop-at.at c.loop-at.from c.loop-at.invariant
-    c.descend.new.at c.retreat.new.self c.if-descend.ensures c.in-default.ensures
+    c.descend.new.at c.retreat.new.self c.if-descend.ensures c.in_default.ensures
 
-pub overflow-add-from : goal.overflow-add-from
-overflow-add-from g c =
+pub overflow_add-from : goal.overflow_add-from
+overflow_add-from g c =
     let few = (turn_back (g.P.Plan.layout c.args.plan.now) (path_of c.args.at.now) c.loop-at.at c.loop-at.from c.loop-at.invariant
     c.descend.new.at c.retreat.new.self c.if-descend.ensures c.in-Some.e c.in-Some.ensures).0 in
     omega arith

@@ -2,10 +2,10 @@ use Rattle.std.proofs.Common.{rules}
 use Rattle.sheet.specs.Connections.{may_connect}
 use Rattle.sheet.proofs.reads.may_connect.Goals as goal
 
-pub returns-then-is-port-2 : goal.returns-then-is-port-2
+pub returns-then-is_port-2 : goal.returns-then-is_port-2
 unfolding may_connect
-returns-then-is-port-2 c = search rules
+returns-then-is_port-2 c = search rules
 
-pub returns-else-is-port-2 : goal.returns-else-is-port-2
+pub returns-else-is_port-2 : goal.returns-else-is_port-2
 unfolding may_connect
-returns-else-is-port-2 c = search rules
+returns-else-is_port-2 c = search rules

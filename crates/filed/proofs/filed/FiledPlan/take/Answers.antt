@@ -3,8 +3,8 @@ use Rattle.file.specs.FileOf.{accepts}
 use Rattle.filed.proofs.Empty.{taken_accepted, taken_layout}
 use Rattle.filed.proofs.filed.FiledPlan.take.Goals as goal
 
-pub invariant-of-result : goal.invariant-of-result
-invariant-of-result c = (ap accepts (c.contents-contents.ensures ∙ c.accepted.ensures) ∙ taken_accepted c.args.bytes.now, tt)
+pub invariant_of-result : goal.invariant_of-result
+invariant_of-result c = (ap accepts (c.contents-contents.ensures ∙ c.accepted.ensures) ∙ taken_accepted c.args.bytes.now, tt)
 
 pub returns : goal.returns
 returns c = record {

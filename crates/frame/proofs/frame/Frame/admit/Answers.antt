@@ -8,9 +8,9 @@ returns-in-Some g c =
     let l = g.P.Plan.layout c.args.plan.now in
     let b = view c.args.self.now in
     let F : List ℕ → Type 0 = λ es. Standing l b es (Some c.in-Some.fault) in
-    let same = c.as-slice.ensures.value ∙ c.in-ok-entries.ensures.value.1 in
+    let same = c.as_slice.ensures.value ∙ c.in_ok-entries.ensures.value.1 in
     record {
-      told = inr (c.in-ok-judge.ensures.judged, subst F same c.in-Some.ensures);
+      told = inr (c.in_ok-judge.ensures.judged, subst F same c.in-Some.ensures);
       entries = tt;
     }
 
@@ -19,8 +19,8 @@ returns-in-None g c =
     let l = g.P.Plan.layout c.args.plan.now in
     let b = view c.args.self.now in
     let F : List ℕ → Type 0 = λ es. Standing l b es None in
-    let read = c.in-ok-entries.ensures.value.1 in
+    let read = c.in_ok-entries.ensures.value.1 in
     record {
-      told = (c.in-ok-judge.ensures.judged, subst F (c.as-slice.ensures.value ∙ read) c.in-None.ensures);
+      told = (c.in_ok-judge.ensures.judged, subst F (c.as_slice.ensures.value ∙ read) c.in-None.ensures);
       entries = read;
     }

@@ -9,21 +9,21 @@ true_false : true ≡ false → ⊥
 true_false h = let z : ◌≡◌ {A = ℕ} 0 1 = cc in omega arith
 
 pub bounds-self-self : goal.bounds-self-self
-bounds-self-self g c = has_room c.args.self.now c.in-ok-entries.ensures.told.1.1.1.1.0
+bounds-self-self g c = has_room c.args.self.now c.in_ok-entries.ensures.told.1.1.1.1.0
 
 pub listed : goal.listed
-listed g c = let room = has_room c.args.self.now c.in-ok-entries.ensures.told.1.1.1.1.0 in let eight = c.args.self.now.eight in omega arith
+listed g c = let room = has_room c.args.self.now c.in_ok-entries.ensures.told.1.1.1.1.0 in let eight = c.args.self.now.eight in omega arith
 
-pub invariant-of-self : goal.invariant-of-self
-invariant-of-self g c =
+pub invariant_of-self : goal.invariant_of-self
+invariant_of-self g c =
     let f = c.args.self.now in
-    let room = has_room f c.in-ok-entries.ensures.told.1.1.1.1.0 in
+    let room = has_room f c.in_ok-entries.ensures.told.1.1.1.1.0 in
     (omega arith, (length-set _ _ _ ∙ f.eight, tt))
 
 pub returns : goal.returns
 returns g c =
     let f = c.args.self.now in
-    let told = c.in-ok-entries.ensures.told in
+    let told = c.in_ok-entries.ensures.told in
     let below = has_room f told.1.1.1.1.0 in
     let eight = f.eight in
     let room : f.count < length f.routes = omega arith in
@@ -31,7 +31,7 @@ returns g c =
     let opened =
     ap open_rows (take_more_set f.routes f.count _ room)
     ∙ map_push open_row (take f.count f.routes) _
-    ∙ ap (λ es. row (record { serial = f.given + 1; entries = es })) c.in-ok-entries.ensures.entries in
+    ∙ ap (λ es. row (record { serial = f.given + 1; entries = es })) c.in_ok-entries.ensures.entries in
     record {
       told = told;
       serial = refl;

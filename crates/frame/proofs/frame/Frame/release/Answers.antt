@@ -7,7 +7,7 @@ use Rattle.frame.proofs.frame.Frame.release.Goals as goal
 pub close-requires : goal.close-requires
 close-requires c =
     let n = open_count c.args.self.now in
-    let m = ap length c.open-routes.ensures in
+    let m = ap length c.open_routes.ensures in
     let h = c.in-Some.ensures.0 in
     omega arith
 
@@ -17,7 +17,7 @@ returns-in-Some c =
     let s = c.args.slip.serial in
     let i = c.in-Some.i in
     let F : List OpenRow → Type 0 = λ rs. Placed rs s (Some i) in
-    let placed = subst F c.open-routes.ensures c.in-Some.ensures in
+    let placed = subst F c.open_routes.ensures c.in-Some.ensures in
     let e = c.close.ensures in
     record {
       told = ((λ none. none (i, placed.0, placed.1)), tt);

@@ -3,4 +3,4 @@ use Rattle.register.proofs.Handing.{first_none}
 use Rattle.register.proofs.registers.Register.restart.Goals as goal
 
 pub returns : goal.returns
-returns g c = record { plan = refl; history = record { first = first_none _; count = refl; stands = c.first-route-self.ensures } }
+returns g c = record { plan = refl; history = record { first = first_none _; count = refl; stands = c.first_route-self.ensures } }

@@ -13,25 +13,25 @@ use Rattle.register.proofs.registers.Register.turn.Goals as goal
 true_false : true ≡ false → ⊥
 true_false h = let z : ◌≡◌ {A = ℕ} 0 1 = cc in omega arith
 
-pub returns-then-is-empty : goal.returns-then-is-empty
-returns-then-is-empty g c =
+pub returns-then-is_empty : goal.returns-then-is_empty
+returns-then-is_empty g c =
     let q = path_of c.args.self.now.next in
-    let none : length q ≡ 0 = ap length (sym c.entries.ensures.value) ∙ eqb-true _ 0 (sym c.is-empty.ensures ∙ c.if-is-empty.true) in
+    let none : length q ≡ 0 = ap length (sym c.entries.ensures.value) ∙ eqb-true _ 0 (sym c.is_empty.ensures ∙ c.if-is_empty.true) in
     record {
       plan = refl;
       refused = λ h. (refl, refl);
       history = λ rows kept. stands_last _ rows q kept.stands none;
     }
 
-pub returns-in-err-length : goal.returns-in-err-length
-returns-in-err-length g c =
+pub returns-in_err-length : goal.returns-in_err-length
+returns-in_err-length g c =
     let l = g.P.Plan.layout c.args.self.now.plan in
     let q = path_of c.args.self.now.next in
     let s = c.args.space.now in
-    let e = c.in-err-length.field-0.0 in
-    let some : length q ≡ 0 → ⊥ = λ z. eqb-false _ 0 (sym c.is-empty.ensures ∙ c.if-is-empty.false) (ap length c.entries.ensures.value ∙ z) in
-    let told : Err e ≡ row_told q s = c.in-err-length.ensures.told ∙ ap (λ x. row_told x s) c.entries-2.ensures.value in
-    let same : c.write-row.new.space ≡ s = c.in-err-length.ensures.left ∙ ap (λ x. row_left x s) c.entries-2.ensures.value ∙ not_touched q s e told in
+    let e = c.in_err-length.field-0.0 in
+    let some : length q ≡ 0 → ⊥ = λ z. eqb-false _ 0 (sym c.is_empty.ensures ∙ c.if-is_empty.false) (ap length c.entries.ensures.value ∙ z) in
+    let told : Err e ≡ row_told q s = c.in_err-length.ensures.told ∙ ap (λ x. row_told x s) c.entries-2.ensures.value in
+    let same : c.write_row.new.space ≡ s = c.in_err-length.ensures.left ∙ ap (λ x. row_left x s) c.entries-2.ensures.value ∙ not_touched q s e told in
     let p = err_from_is_err_and c.from-residual.result c.from-residual.ensures.1 in
     rw (p.1, p.2) record {
       plan = refl;
@@ -41,15 +41,15 @@ returns-in-err-length g c =
           let shape = route_entries l (g.P.Plan.lawful c.args.self.now.plan) q next.route in
           let w = not_written q s e told shape in
           let few : length rows < 65535 = let n = kept.count in let k = c.if-self.false in omega arith in
-          turned_short {P = g.row.P.Denot} l rows s c.write-row.new.space c.args.self.now e q w.0 next few w.1;
+          turned_short {P = g.row.P.Denot} l rows s c.write_row.new.space c.args.self.now e q w.0 next few w.1;
     }
 
 pub returns : goal.returns
 returns g c =
     let l = g.P.Plan.layout c.args.self.now.plan in
     let q = path_of c.args.self.now.next in
-    let some : length q ≡ 0 → ⊥ = λ z. eqb-false _ 0 (sym c.is-empty.ensures ∙ c.if-is-empty.false) (ap length c.entries.ensures.value ∙ z) in
-    let w = written q c.args.space.now c.in-ok-length.length (c.in-ok-length.ensures.told ∙ ap (λ x. row_told x c.args.space.now) c.entries-2.ensures.value) in
+    let some : length q ≡ 0 → ⊥ = λ z. eqb-false _ 0 (sym c.is_empty.ensures ∙ c.if-is_empty.false) (ap length c.entries.ensures.value ∙ z) in
+    let w = written q c.args.space.now c.in_ok-length.length (c.in_ok-length.ensures.told ∙ ap (λ x. row_told x c.args.space.now) c.entries-2.ensures.value) in
     record {
       plan = refl;
       refused = λ h. absurd (true_false h);
@@ -60,11 +60,11 @@ returns g c =
             (let n = kept.count in let k = c.if-self.false in omega arith),
             w.0,
             w.1,
-            c.in-ok-length.ensures.left ∙ ap (λ x. row_left x c.args.space.now) c.entries-2.ensures.value ∙ w.2,
+            c.in_ok-length.ensures.left ∙ ap (λ x. row_left x c.args.space.now) c.entries-2.ensures.value ∙ w.2,
             record {
               first = first_more l rows q kept.first next;
               count = ap (λ n. n + 1) kept.count ∙ sym (length_push rows q);
-              stands = stands_more l rows q (path_of c.next-route.new.at) c.next-route.result kept.first next c.next-route.ensures;
+              stands = stands_more l rows q (path_of c.next_route.new.at) c.next_route.result kept.first next c.next_route.ensures;
             },
           );
     }

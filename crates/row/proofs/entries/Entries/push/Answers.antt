@@ -4,8 +4,8 @@ use Rattle.std.proofs.lemmas.Bool.{true≢false}
 use Rattle.row.proofs.Fronts.{small_more}
 use Rattle.row.proofs.entries.Entries.push.Goals as goal
 
-pub invariant-of-self : goal.invariant-of-self
-invariant-of-self c =
+pub invariant_of-self : goal.invariant_of-self
+invariant_of-self c =
     let x = c.args.self.now in
     let room : x.len < length x.cells = omega arith in
     (omega arith, (simp length-set x.whole, (small_more x.cells x.len c.args.e room (omega arith) x.small, tt)))

@@ -3,5 +3,5 @@ use Rattle.route.specs.Components.{times}
 use Rattle.route.proofs.Counts.{times_none}
 use Rattle.search.proofs.position.Position.new.Goals as goal
 
-pub invariant-of-result : goal.invariant-of-result
-invariant-of-result c = ((λ k. c.new-2.ensures k ∙ sym (ap (times k) c.new.ensures ∙ times_none k)), tt)
+pub invariant_of-result : goal.invariant_of-result
+invariant_of-result c = ((λ k. c.new-2.ensures k ∙ sym (ap (times k) c.new.ensures ∙ times_none k)), tt)

@@ -3,10 +3,10 @@ use Rattle.row.specs.View.{entries}
 use Rattle.search.proofs.Ties.{tied_less}
 use Rattle.search.proofs.position.Position.pop.Goals as goal
 
-pub returns-in-default : goal.returns-in-default
-returns-in-default c = let h = c.in-default.ensures in (h.0, ap entries h.1 ∙ h.0)
+pub returns-in_default : goal.returns-in_default
+returns-in_default c = let h = c.in_default.ensures in (h.0, ap entries h.1 ∙ h.0)
 
-pub invariant-of-self-2 : goal.invariant-of-self-2
-invariant-of-self-2 c =
+pub invariant_of-self-2 : goal.invariant_of-self-2
+invariant_of-self-2 c =
     let s = c.args.self.now in
     (tied_less s.on c.remove.new.self (entries s.path) (entries c.pop.new.self) c.in-Some.e s.tied c.in-Some.ensures c.remove.ensures, tt)

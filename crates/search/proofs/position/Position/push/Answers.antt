@@ -6,7 +6,7 @@ use Rattle.sets.proofs.Membership.{not_in}
 use Rattle.route.proofs.Counts.{none_new, some_old}
 use Rattle.search.proofs.Ties.{tied_more, fits}
 use Rattle.search.proofs.position.Position.push.Goals as goal
-use Rattle.search.proofs.position.Position.push.Goals.{then_e_ge2048_via_then_e_ge2048, then_e_ge2048_via_else_e_ge2048+then_len_ge512, then_e_ge2048_via_else_e_ge2048+else_len_ge512+then_contains}
+use Rattle.search.proofs.position.Position.push.Goals.{then-e-ge2048-via-then-e-ge2048, then-e-ge2048-via-else-e-ge2048+then-len-ge512, then-e-ge2048-via-else-e-ge2048+else-len-ge512+then-contains}
 
 pub returns-then-e-ge2048 : goal.returns-then-e-ge2048
 returns-then-e-ge2048 c =
@@ -15,9 +15,9 @@ returns-then-e-ge2048 c =
       refl,
       λ new low short.
           elim c.then-e-ge2048.branch [
-            | then_e_ge2048_via_then_e_ge2048 w ↦ omega (arith, w.if-e-ge2048.true)
-            | then_e_ge2048_via_else_e_ge2048+then_len_ge512 w ↦ omega (arith, w.if-len-ge512.true, w.len.ensures.value)
-            | then_e_ge2048_via_else_e_ge2048+else_len_ge512+then_contains w ↦
+            | then-e-ge2048-via-then-e-ge2048 w ↦ omega (arith, w.if-e-ge2048.true)
+            | then-e-ge2048-via-else-e-ge2048+then-len-ge512 w ↦ omega (arith, w.if-len-ge512.true, w.len.ensures.value)
+            | then-e-ge2048-via-else-e-ge2048+else-len-ge512+then-contains w ↦
                 let h = eqb-true (has s.on k) 1 (sym w.contains.ensures ∙ w.if-contains.true) in
                 let t = s.tied k in
                 some_old (entries s.path) c.args.e (omega arith) new
@@ -25,8 +25,8 @@ returns-then-e-ge2048 c =
     )
 
 -- the component was not on the path
-pub invariant-of-self : goal.invariant-of-self
-invariant-of-self c =
+pub invariant_of-self : goal.invariant_of-self
+invariant_of-self c =
     let s = c.args.self.now in
     let e = c.args.e in
     let short : length (entries s.path) < 512 = omega (arith, c.len.ensures.value) in

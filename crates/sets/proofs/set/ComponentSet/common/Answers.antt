@@ -9,8 +9,8 @@ pub loop-k-init : goal.loop-k-init
 unfolding sum_below
 loop-k-init c = refl
 
-pub overflow-add-count : goal.overflow-add-count
-overflow-add-count c =
+pub overflow_add-count : goal.overflow_add-count
+overflow_add-count c =
     let a = c.args.self.now.words in
     let b = c.args.other.now.words in
     let i = c.loop-k.k in

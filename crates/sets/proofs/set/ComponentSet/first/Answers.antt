@@ -3,7 +3,7 @@ use Rattle.std.proofs.lemmas.Bool.{cases_lt}
 use Rattle.sets.specs.Members.{has}
 use Rattle.sets.proofs.Membership.{word_none, within_word, below_words, has_past}
 use Rattle.sets.proofs.set.ComponentSet.first.Goals as goal
-use Rattle.sets.proofs.set.ComponentSet.first.Goals.{then_self_i_ne0+in_default, else_self_i_ne0}
+use Rattle.sets.proofs.set.ComponentSet.first.Goals.{then-self-i-ne0+in_default, else-self-i-ne0}
 
 pub returns-in-Some : goal.returns-in-Some
 returns-in-Some c =
@@ -25,8 +25,8 @@ loop-i-preserved c =
     let i = c.loop-i.i in
     below_words s i c.loop-i.invariant (λ k low high.
     elim c.if-self-i-ne0.branch [
-      | then_self_i_ne0+in_default w ↦ within_word s i k w.in-default.ensures low high
-      | else_self_i_ne0 w ↦ word_none s i k w.if-self-i-ne0.false low high
+      | then-self-i-ne0+in_default w ↦ within_word s i k w.in_default.ensures low high
+      | else-self-i-ne0 w ↦ word_none s i k w.if-self-i-ne0.false low high
     ])
 
 pub returns : goal.returns

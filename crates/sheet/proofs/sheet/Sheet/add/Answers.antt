@@ -6,8 +6,8 @@ use Rattle.sheet.specs.Connections.{layout_of}
 use Rattle.sheet.proofs.Growth.{added_blank, added_layout, added_stands}
 use Rattle.sheet.proofs.sheet.Sheet.add.Goals as goal
 
-pub invariant-of-self : goal.invariant-of-self
-invariant-of-self c =
+pub invariant_of-self : goal.invariant_of-self
+invariant_of-self c =
     let s = c.args.self.now in
     let rs = s.records.now in
     let room = and_parts _ _ c.requires.room in

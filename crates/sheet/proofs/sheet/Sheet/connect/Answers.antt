@@ -17,11 +17,11 @@ returns c =
         layout =
             (λ i. layout_of (recs i) (same i))
             ∙ connected_layout s.records.now s.count s.fits a b
-            (sym c.is-port.ensures ∙ c.if-not-is-port.false)
-            (sym c.is-port-else-not-is-port.ensures ∙ c.if-not-is-port-2.false)
-            (sym c.is-opposed.ensures ∙ c.if-not-is-opposed.false)
-            (sym c.far-of.ensures ∙ is_none _ (sym c.is-some.ensures ∙ c.if-is-some.false))
-            (sym c.far-of-else-is-some.ensures ∙ is_none _ (sym c.is-some-else-is-some.ensures ∙ c.if-is-some-2.false));
+            (sym c.is_port.ensures ∙ c.if-not-is_port.false)
+            (sym c.is_port-else-not-is_port.ensures ∙ c.if-not-is_port-2.false)
+            (sym c.is_opposed.ensures ∙ c.if-not-is_opposed.false)
+            (sym c.far_of.ensures ∙ is_none _ (sym c.is_some.ensures ∙ c.if-is_some.false))
+            (sym c.far_of-else-is_some.ensures ∙ is_none _ (sym c.is_some-else-is_some.ensures ∙ c.if-is_some-2.false));
         records = recs;
         count = same;
         sections = c.put-2.ensures.sections ∙ c.put.ensures.sections;

@@ -13,7 +13,7 @@ put-requires-2 c =
     let l = components_of s.records.now s.count in
     let p = c.args.port in
     let q = c.in-Some.far in
-    let may = (far_says l (named s.records.now) p q (sym c.far-of.ensures ∙ c.in-Some.is)).2 in
+    let may = (far_says l (named s.records.now) p q (sym c.far_of.ensures ∙ c.in-Some.is)).2 in
     let below = port_below l q (may_parts l p q may).1 in
     let e = c.put.ensures.count in
     omega arith
@@ -23,7 +23,7 @@ returns c =
     let s = c.args.self.now in
     let p = c.args.port in
     let q = c.in-Some.far in
-    let far = sym c.far-of.ensures ∙ c.in-Some.is in
+    let far = sym c.far_of.ensures ∙ c.in-Some.is in
     let recs = c.put-2.ensures.records ∙ ap (λ r. put_in r q None) c.put.ensures.records in
     let same = c.put-2.ensures.count ∙ c.put.ensures.count in
     record {

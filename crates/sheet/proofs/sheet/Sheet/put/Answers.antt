@@ -4,8 +4,8 @@ use Rattle.sheet.specs.Records.{at, section_stands}
 use Rattle.sheet.proofs.Puts.{put_is, put_stands}
 use Rattle.sheet.proofs.sheet.Sheet.put.Goals as goal
 
-pub invariant-of-self : goal.invariant-of-self
-invariant-of-self c =
+pub invariant_of-self : goal.invariant_of-self
+invariant_of-self c =
     let s = c.args.self.now in
     let e = put_is s.records.now _ c.args.port c.args.far _ c.from-component.ensures c.naming.ensures in
     let within : c.args.port.component < length s.records.now = let f = s.fits in let p = c.requires in omega arith in (
