@@ -1,4 +1,4 @@
-mod Cells
+mod Along
 mod Decimals
 mod Fronts
 mod Shown

@@ -1,13 +1,9 @@
 -- Numbers in decimal, as characters.
-use Rattle.std.specs.Prelude.{ℕ, zero, suc, ◌+◌, ◌/◌, ◌%◌, cond, List, [], ◌∷◌, ◌++◌, ◌==◌, nat_lt}
+use Rattle.std.specs.Prelude.{ℕ, zero, suc, ◌+◌, ◌/◌, ◌%◌, cond, List, [], ◌∷◌, ◌++◌, nat_lt}
 
 -- the character of a digit
 abbrev pub digit : ℕ → ℕ
 digit d = 48 + d
-
--- the character at place `k` where the numbers 0, 1, 2 and so on stand in a row, with two digits each
-abbrev pub pair_digit : ℕ → ℕ
-pair_digit k = digit (cond (k % 2 == 0) (k / 2 / 10) (k / 2 % 10))
 
 -- a number below 10 is one digit; any other has the digits of its tenth, and then its last
 unfoldable pub digits : ℕ → ℕ → List ℕ

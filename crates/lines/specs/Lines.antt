@@ -14,10 +14,6 @@ lie e = cond (e % 4 == 1) (codes "N") (cond (e % 4 == 2) (codes "R") [])
 unfoldable pub shown : ℕ → List ℕ
 shown e = decimal (e / 4) ++ lie e
 
--- an entry that others come after: with a space behind it
-abbrev pub cell : ℕ → List ℕ
-cell e = shown e ++ 32 ∷ []
-
 -- what stands behind an entry: a space, or behind the last the end of the line
 abbrev pub stop : List ℕ → ℕ
 stop [] = 10

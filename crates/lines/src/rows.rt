@@ -1,8 +1,8 @@
-ghost use Rattle.std.specs.Prelude.{◌≡◌, ◌+◌, ◌*◌, ◌%◌, ◌<◌, ◌≤◌, true, length};
+ghost use Rattle.std.specs.Prelude.{◌≡◌, ◌+◌, ◌*◌, ◌<◌, ◌≤◌, true, length, if◌then◌else◌, nat_lt};
 ghost use Rattle.numbers.specs.Stored.{number};
 ghost use Rattle.row.specs.Put.{put};
 ghost use Rattle.row.specs.Row.{is_row, entries_of};
-ghost use Rattle.lines.specs.Lines.{shown, cell, row_line, row_line_told, row_line_left};
+ghost use Rattle.lines.specs.Lines.{shown, row_line, row_line_told, row_line_left};
 
 use crate::digits::{put_small, small_count};
 use fault::kinds::BoxFault;
@@ -29,20 +29,30 @@ fn shown_count(e: u16) -> usize
     digits
 }
 
-// Writes the entry and a space at the place and answers the place behind them.
+// Writes the entry at the place and answers the place behind it.
 fn put_entry(space: &mut [u8], at: usize, e: u16) -> usize
-    requires { (e < 2048) × ((e % 4 < 3) × (at + length (cell e) ≤ length space.old)) }
-    ensures next { result ≡ at + length (cell e) }
-    ensures left { space.new ≡ put space.old at (cell e) }
+    requires { (e < 2048) × (at + length (shown e) ≤ length space.old) }
+    ensures next { result ≡ at + length (shown e) }
+    ensures left { space.new ≡ put space.old at (shown e) }
 {
-    let letter_at = put_small(space, at, e / 4);
-    // switches lie in no pattern that a processor could foresee, so there is no branch: where no letter belongs the
-    // space is written over it
-    let lie = e % 4;
-    space[letter_at] = if lie == 1 { b'N' } else { b'R' };
-    let end = letter_at + usize::from(lie).min(1);
-    space[end] = b' ';
-    end + 1
+    let end = put_small(space, at, e / 4);
+    if e % 4 == 1 {
+        space[end] = b'N';
+        return end + 1;
+    }
+    if e % 4 == 2 {
+        space[end] = b'R';
+        return end + 1;
+    }
+    end
+}
+
+// What stands behind the entry `i` of so many: a space, or the end of the line.
+fn stop(i: usize, count: usize) -> u8
+    requires { i < count }
+    ensures { result ≡ (if nat_lt (i + 1) count then 32 else 10) }
+{
+    if i + 1 < count { b' ' } else { b'\n' }
 }
 
 // How long the line of a row is.
@@ -63,11 +73,13 @@ fn put_line(row: &[u8], space: &mut [u8]) -> usize
     ensures length { result ≡ length (row_line (entries_of row.now)) }
     ensures left { space.new ≡ put space.old 0 (row_line (entries_of row.now)) }
 {
+    let count = entry_count(row);
     let mut at = 0;
-    for i in 0..entry_count(row) {
-        at = put_entry(space, at, known_entry(row, i));
+    for i in 0..count {
+        let end = put_entry(space, at, known_entry(row, i));
+        space[end] = stop(i, count);
+        at = end + 1;
     }
-    space[at - 1] = b'\n';
     at
 }
 

@@ -4,15 +4,15 @@ use Rattle.file.proofs.Whole.{read_whole}
 use Rattle.file.proofs.Accepted.{accepted_exactly, means}
 use Rattle.file.proofs.look.look_over.Goals as goal
 
-first_break : (c : goal.After-from-residual) → c.from-residual.result ≡ look c.args.bytes.now
+first_break : (c : goal.After-from_residual) → c.from_residual.result ≡ look c.args.bytes.now
 unfolding look
 first_break c = search rules
 
 pub returns-in_err-first_reading : goal.returns-in_err-first_reading
 returns-in_err-first_reading c = record {
   first = first_break c;
-  accepted = accepted_exactly c.args.bytes.now c.from-residual.result (first_break c);
-  means = means c.args.bytes.now c.from-residual.result (first_break c);
+  accepted = accepted_exactly c.args.bytes.now c.from_residual.result (first_break c);
+  means = means c.args.bytes.now c.from_residual.result (first_break c);
 }
 
 pub second_reading-requires : goal.second_reading-requires

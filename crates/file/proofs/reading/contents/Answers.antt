@@ -4,4 +4,9 @@ use Rattle.file.proofs.reading.contents.Goals as goal
 
 pub invariant_of-result : goal.invariant_of-result
 unfolding signal_count switch_count straight_count section_count
-invariant_of-result c = (c.number_at-signals.ensures, (search rules, (search rules, (search rules, tt))))
+invariant_of-result c = record {
+  signals_counted = c.number_at-signals.ensures;
+  switches_counted = search rules;
+  straights_counted = search rules;
+  sections_counted = search rules;
+}

@@ -1,9 +1,10 @@
-use Rattle.std.proofs.Common.{◌≡◌, ◌*◌, ◌≤◌, length, take}
-use Rattle.std.specs.List.{flat_map}
+use Rattle.std.proofs.Common.{◌≡◌, ◌+◌, ◌*◌, ◌≤◌, length, drop}
 use Rattle.row.specs.Row.{entries_of}
-use Rattle.lines.specs.Lines.{cell}
+use Rattle.lines.specs.Lines.{row_line}
 use Rattle.lines.proofs.rows.line_count.Given as goal
 
--- the entries so far are counted, each with what stands behind it
+-- what is counted, and what is left of the line
 abbrev pub invariant-loop-i : goal.invariant-loop-i
-invariant-loop-i l = (l.size ≡ length (flat_map cell (take l.i (entries_of l.row)))) × (l.size ≤ 5 * l.i)
+invariant-loop-i l =
+    (l.size + length (row_line (drop l.i (entries_of l.row))) ≡ length (row_line (entries_of l.row)))
+    × (l.size ≤ 5 * l.i)

@@ -1,42 +1,57 @@
-use Rattle.std.proofs.Common.{◌≡◌, ◌+◌, ◌/◌, ◌%◌, min, ◌≢◌, length, set, ap, ◌∙◌, arith, length-set}
+use Rattle.std.proofs.Common.{◌/◌, length, set, sym, ap, ◌∙◌, arith}
 use Rattle.row.specs.Put.{put}
+use Rattle.row.proofs.Puts.{put_then}
 use Rattle.lines.specs.Decimal.{decimal}
-use Rattle.lines.proofs.Shown.{length_cell, put_lie}
+use Rattle.lines.proofs.Shown.{shown_normal, shown_reverse, shown_plain, length_normal, length_reverse, length_digits}
 use Rattle.lines.proofs.rows.put_entry.Goals as goal
-use Rattle.lines.proofs.rows.put_entry.Goals.{then-lie-eq1, else-lie-eq1}
 
-pub put_small-letter_at-requires : goal.put_small-letter_at-requires
-put_small-letter_at-requires c = let l = length_cell c.args.e (omega arith) in (omega arith, omega arith)
-
-pub bounds-space-letter_at : goal.bounds-space-letter_at
-bounds-space-letter_at c = let l = length_cell c.args.e (omega arith) in omega arith
-
-pub overflow_add-end : goal.overflow_add-end
-overflow_add-end c = let l = length_cell c.args.e (omega arith) in omega arith
+pub put_small-end-requires : goal.put_small-end-requires
+put_small-end-requires c = let l = length_digits c.args.e in (omega arith, omega arith)
 
 pub bounds-space-end : goal.bounds-space-end
-bounds-space-end c = let l = length_cell c.args.e (omega arith) in simp length-set (omega arith)
+bounds-space-end c = let l = length_normal c.args.e (omega arith) in omega arith
 
 pub overflow_add-result : goal.overflow_add-result
-overflow_add-result c = let l = length_cell c.args.e (omega arith) in omega arith
+overflow_add-result c = let l = length_normal c.args.e (omega arith) in omega arith
+
+pub bounds-space-end-then-e-eq2 : goal.bounds-space-end-then-e-eq2
+bounds-space-end-then-e-eq2 c = let l = length_reverse c.args.e (omega arith) in omega arith
+
+pub overflow_add-result-then-e-eq2 : goal.overflow_add-result-then-e-eq2
+overflow_add-result-then-e-eq2 c = let l = length_reverse c.args.e (omega arith) in omega arith
+
+pub returns-then-e-eq1 : goal.returns-then-e-eq1
+returns-then-e-eq1 c =
+    let s = c.args.space.now in
+    let at = c.args.at in
+    let d = decimal (c.args.e / 4) in
+    let l = length_normal c.args.e (omega arith) in
+    record {
+      next = omega arith;
+      left = ap (λ x. set x c.put_small-end.result 78) c.put_small-end.ensures.left
+          ∙ ap (λ p. set (put s at d) p 78) c.put_small-end.ensures.next
+          ∙ put_then s at d 78 (omega arith)
+          ∙ ap (put s at) (sym (shown_normal c.args.e (omega arith)));
+    }
+
+pub returns-then-e-eq2 : goal.returns-then-e-eq2
+returns-then-e-eq2 c =
+    let s = c.args.space.now in
+    let at = c.args.at in
+    let d = decimal (c.args.e / 4) in
+    let l = length_reverse c.args.e (omega arith) in
+    record {
+      next = omega arith;
+      left = ap (λ x. set x c.put_small-end.result 82) c.put_small-end.ensures.left
+          ∙ ap (λ p. set (put s at d) p 82) c.put_small-end.ensures.next
+          ∙ put_then s at d 82 (omega arith)
+          ∙ ap (put s at) (sym (shown_reverse c.args.e (omega arith)));
+    }
 
 pub returns : goal.returns
 returns c =
     let s = c.args.space.now in
     let at = c.args.at in
-    let e = c.args.e in
-    let d = decimal (e / 4) in
-    let x = c.if-lie-eq1.space in
-    let l = length_cell e (omega arith) in
-    let m : c.min.result ≡ min (e % 4) 1 = c.min.ensures ∙ ap (λ k. min k 1) c.from.ensures in
-    let normal : e % 4 ≡ 1 → x ≡ 78 =
-    elim c.if-lie-eq1.branch [ then-lie-eq1 w ↦ λ q. w.space-is | else-lie-eq1 w ↦ λ q. absurd (w.if-lie-eq1.false q) ] in
-    let reverse : e % 4 ≢ 1 → x ≡ 82 =
-    elim c.if-lie-eq1.branch [ then-lie-eq1 w ↦ λ q. absurd (q w.if-lie-eq1.true) | else-lie-eq1 w ↦ λ q. w.space-is ] in
-    record {
-      next = omega arith;
-      left = ap (λ y. set (set y c.put_small-letter_at.result x) (c.put_small-letter_at.result + c.min.result) 32) c.put_small-letter_at.ensures.left
-          ∙ ap (λ p. set (set (put s at d) p x) (p + c.min.result) 32) c.put_small-letter_at.ensures.next
-          ∙ ap (λ k. set (set (put s at d) (at + length d) x) (at + length d + k) 32) m
-          ∙ put_lie s at e x (omega arith) normal reverse (omega arith);
-    }
+    let plain = shown_plain c.args.e (λ q. omega arith) (λ q. omega arith) in
+    let l = ap length plain in
+    record { next = omega arith; left = c.put_small-end.ensures.left ∙ ap (put s at) (sym plain) }

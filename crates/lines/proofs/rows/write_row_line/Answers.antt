@@ -3,7 +3,7 @@ use Rattle.std.proofs.lemmas.Bool.{cond-true}
 use Rattle.row.specs.Row.{entries_of}
 use Rattle.row.proofs.Puts.{long_enough}
 use Rattle.lines.specs.Lines.{row_line}
-use Rattle.lines.proofs.Cells.{row_most}
+use Rattle.lines.proofs.Along.{row_most}
 use Rattle.lines.proofs.rows.write_row_line.Goals as goal
 use Rattle.lines.proofs.rows.write_row_line.Goals.{else-space-entry_count-via-then-space-entry_count+else-space-line_count, else-space-entry_count-via-else-space-entry_count}
 

@@ -4,7 +4,7 @@ use Rattle.filed.proofs.Empty.{taken_accepted, taken_layout}
 use Rattle.filed.proofs.filed.FiledPlan.take.Goals as goal
 
 pub invariant_of-result : goal.invariant_of-result
-invariant_of-result c = (ap accepts (c.contents-contents.ensures ∙ c.accepted.ensures) ∙ taken_accepted c.args.bytes.now, tt)
+invariant_of-result c = record { accepted = ap accepts (c.contents-contents.ensures ∙ c.accepted.ensures) ∙ taken_accepted c.args.bytes.now }
 
 pub returns : goal.returns
 returns c = record {

@@ -8,7 +8,11 @@ pub invariant_of-self : goal.invariant_of-self
 invariant_of-self c =
     let x = c.args.self.now in
     let room : x.len < length x.cells = omega arith in
-    (omega arith, (simp length-set x.whole, (small_more x.cells x.len c.args.e room (omega arith) x.small, tt)))
+    record {
+      within = omega arith;
+      whole = simp length-set x.whole;
+      small = small_more x.cells x.len c.args.e room (omega arith) x.small;
+    }
 
 pub returns : goal.returns
 returns c =

@@ -9,4 +9,4 @@ returns-in_default c = let h = c.in_default.ensures in (h.0, ap entries h.1 ∙ 
 pub invariant_of-self-2 : goal.invariant_of-self-2
 invariant_of-self-2 c =
     let s = c.args.self.now in
-    (tied_less s.on c.remove.new.self (entries s.path) (entries c.pop.new.self) c.in-Some.e s.tied c.in-Some.ensures c.remove.ensures, tt)
+    record { tied = tied_less s.on c.remove.new.self (entries s.path) (entries c.pop.new.self) c.in-Some.e s.tied c.in-Some.ensures c.remove.ensures }

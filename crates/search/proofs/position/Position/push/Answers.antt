@@ -32,7 +32,7 @@ invariant_of-self c =
     let short : length (entries s.path) < 512 = omega (arith, c.len.ensures.value) in
     let out = not_in s.on (e / 4) (sym c.contains.ensures ∙ c.if-contains.false) in
     let grown = c.push.ensures.grown (c.push.ensures.fits ∙ fits (length (entries s.path)) e short c.if-e-ge2048.false) in
-    (tied_more s.on c.insert.new.self (entries s.path) (entries c.push.new.self) e s.tied out c.if-e-ge2048.false grown c.insert.ensures, tt)
+    record { tied = tied_more s.on c.insert.new.self (entries s.path) (entries c.push.new.self) e s.tied out c.if-e-ge2048.false grown c.insert.ensures }
 
 pub returns : goal.returns
 returns c =

@@ -14,19 +14,12 @@ invariant_of-self c =
     let few = ltb-true s.count 512 room.0 in
     let free = ltb-true s.count (length rs) room.1 in
     let less : s.count + 1 ≤ 512 = omega arith in
-    let fits : s.count + 1 ≤ length rs = omega arith in (
-      simp length-set fits,
-      (
-        less,
-        (
-          s.small,
-          (
-            (λ k h. subst (λ (x : List Component). section_stands (at x k) s.sections ≡ true) (λ i. set rs (sym c.from.ensures i) (sym c.blank.ensures i)) (added_stands rs s.count c.args.kind c.args.section free s.sections c.requires.stands s.known k h)),
-            tt,
-          ),
-        ),
-      ),
-    )
+    let fits : s.count + 1 ≤ length rs = omega arith in record {
+      fits = simp length-set fits;
+      few = less;
+      small = s.small;
+      known = λ k h. subst (λ (x : List Component). section_stands (at x k) s.sections ≡ true) (λ i. set rs (sym c.from.ensures i) (sym c.blank.ensures i)) (added_stands rs s.count c.args.kind c.args.section free s.sections c.requires.stands s.known k h);
+    }
 
 pub returns : goal.returns
 returns c =

@@ -8,19 +8,12 @@ pub invariant_of-self : goal.invariant_of-self
 invariant_of-self c =
     let s = c.args.self.now in
     let e = put_is s.records.now _ c.args.port c.args.far _ c.from-component.ensures c.naming.ensures in
-    let within : c.args.port.component < length s.records.now = let f = s.fits in let p = c.requires in omega arith in (
-      simp length-set s.fits,
-      (
-        s.few,
-        (
-          s.small,
-          (
-            (λ k h. subst (λ (rs : List Component). section_stands (at rs k) s.sections ≡ true) (sym e) (put_stands s.records.now c.args.port c.args.far within s.sections k (s.known k h))),
-            tt,
-          ),
-        ),
-      ),
-    )
+    let within : c.args.port.component < length s.records.now = let f = s.fits in let p = c.requires in omega arith in record {
+      fits = simp length-set s.fits;
+      few = s.few;
+      small = s.small;
+      known = λ k h. subst (λ (rs : List Component). section_stands (at rs k) s.sections ≡ true) (sym e) (put_stands s.records.now c.args.port c.args.far within s.sections k (s.known k h));
+    }
 
 pub returns : goal.returns
 returns c = record {

@@ -54,7 +54,7 @@ const ROUTES: [(usize, [u8; 18]); 12] = [
 ];
 
 // Prints, for each two of the routes, how many components they have in common.
-pub fn print_shares(rt: &HostRuntime) -> anyhow::Result<()> {
+pub fn print_table(rt: &HostRuntime) -> anyhow::Result<()> {
     for (length, row) in ROUTES {
         let Some(first) = row.get(0..length) else {
             return Err(anyhow!("a row is longer than its space"));
