@@ -24,7 +24,7 @@ FIELDS = set(
 OTHERS = {"bit-and": "bit-bit_and", "bit-xor": "bit-bit_xor"}
 
 WORD = re.compile(r"[^\s(){}\[\],;.«»\"|`⌜⌝]+")
-DEFINED = re.compile(r"^[ \t]*(?:(?:abbrev|unfoldable|pub|record|data|deriving)[ \t]+)*([^\s(){}\[\],;.:«»]+)[ \t]*(?::|\()", re.M)
+DEFINED = re.compile(r"^[ \t]*(?:(?:abbrev|unfoldable|pub|record|data|deriving)[ \t]+)*([^\s(){}\[\],;.:«»]+)[ \t]*:", re.M)
 LET = re.compile(r"(?:\blet |[({])([^\s(){}\[\],;.:«»=]+) (?=[:=])")
 USE = re.compile(r"\buse\s+([^\s{};]+?)\.\{([^}]*)\}")
 

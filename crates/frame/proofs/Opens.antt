@@ -1,6 +1,6 @@
 -- The open routes of a frame as rows of its book.
 use Rattle.std.proofs.Common.{◌≡◌, ℕ, suc, ◌<◌, ◌≤◌, List, ◌++◌, map, length, get_or, take, drop, sym, ap, ◌∙◌, arith}
-use Rattle.std.proofs.lemmas.List.{get_or-map, length_map, length-take-le, map-append, take-map, drop-map}
+use Rattle.std.proofs.lemmas.List.{get_or-map, length-map, length-take-le, map-append, take-map, drop-map}
 use Rattle.std.specs.List.{remove}
 use Rattle.row.specs.View.{entries}
 use Rattle.frame.specs.declared.open_route.OpenRoute.{OpenRoute}
@@ -20,7 +20,7 @@ open_count f =
     let h = f.few in
     let n = f.eight in
     let k : f.count ≤ length f.routes = omega arith in
-    length_map (take f.count f.routes) open_row ∙ length-take-le f.count f.routes k
+    length-map (take f.count f.routes) open_row ∙ length-take-le f.count f.routes k
 
 pub map_removed : {X Y : Type 0} (f : X → Y) (i : ℕ) (xs : List X) → map f (remove xs i) ≡ remove (map f xs) i
 map_removed f i xs =

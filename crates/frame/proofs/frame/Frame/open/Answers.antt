@@ -18,7 +18,7 @@ pub invariant_of-self : goal.invariant_of-self
 invariant_of-self g c =
     let f = c.args.self.now in
     let room = has_room f c.in_ok-entries.ensures.told.1.1.1.1.0 in
-    (omega arith, (length-set _ _ _ ∙ f.eight, tt))
+    record { few = omega arith; eight = length-set _ _ _ ∙ f.eight }
 
 pub returns : goal.returns
 returns g c =

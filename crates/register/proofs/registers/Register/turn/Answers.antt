@@ -32,7 +32,7 @@ returns-in_err-length g c =
     let some : length q ≡ 0 → ⊥ = λ z. eqb-false _ 0 (sym c.is_empty.ensures ∙ c.if-is_empty.false) (ap length c.entries.ensures.value ∙ z) in
     let told : Err e ≡ row_told q s = c.in_err-length.ensures.told ∙ ap (λ x. row_told x s) c.entries-2.ensures.value in
     let same : c.write_row.new.space ≡ s = c.in_err-length.ensures.left ∙ ap (λ x. row_left x s) c.entries-2.ensures.value ∙ not_touched q s e told in
-    let p = err_from_is_err_and c.from-residual.result c.from-residual.ensures.1 in
+    let p = err_from_is_err_and c.from_residual.result c.from_residual.ensures.1 in
     rw (p.1, p.2) record {
       plan = refl;
       refused = λ h. (refl, same);
