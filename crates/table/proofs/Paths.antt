@@ -2,7 +2,7 @@
 use Rattle.std.proofs.Common.{◌≡◌, ℕ, ◌/◌, ◌%◌, Bool, true, false, cond, not, ◌&&◌, ◌||◌, eqb, ltb, leb, ◌⊎◌, List, [], ◌∷◌, ◌++◌, length, Some, None, Decides, Option, sym, refl, subst, append_assoc, append-nil, arith}
 use Rattle.std.proofs.ByRecursion.{All-get_or, All-from_get_or, Decides-by_and}
 use Rattle.std.proofs.lemmas.Bool.{false≢true, leb-true, le-leb, and_parts, and_from}
-use Rattle.std.proofs.lemmas.Bool.Decides.{Decides-eqb, Decides-ltb, Decides-not, Decides_and, Decides-or, Decides_like}
+use Rattle.std.proofs.lemmas.Bool.Decides.{Decides-eqb, Decides-ltb, Decides-not, Decides-and, Decides-or, Decides-like}
 use Rattle.plan.specs.declared.parts.Direction.{Direction}
 use Rattle.plan.specs.declared.parts.Direction.TheVariants.{East, West}
 use Rattle.plan.specs.declared.parts.Kind.{Kind}
@@ -62,7 +62,7 @@ is_new e (x ∷ q) = not (eqb (x / 4) (e / 4)) && is_new e q
 decides_new : (q : List ℕ) (e : ℕ) → Decides (is_new e q) (New q e)
 decides_new q e =
     let P : ℕ → Type 0 = λ x. x / 4 ≡ e / 4 → ⊥ in
-    Decides_like (is_new e q) (λ a k h. All-get_or P q k 0 h a) (All-from_get_or P q 0)
+    Decides-like (is_new e q) (λ a k h. All-get_or P q k 0 h a) (All-from_get_or P q 0)
     (Decides-by_and (λ x. not (eqb (x / 4) (e / 4))) P (is_new e) (λ x. Decides-not (eqb (x / 4) (e / 4)) (Decides-eqb (x / 4) (e / 4))) refl (λ _ _. refl) q)
 
 module _ (l : Layout) where
@@ -73,7 +73,7 @@ module _ (l : Layout) where
   decides_enters : (o : Option Port) (e : ℕ) → Decides (enters o e) (Enters l o e)
   decides_enters None e = never (λ h. h)
   decides_enters (Some p) e =
-      Decides_and (eqb (e / 4) p.component) (lies (l.kind p.component) p.side (e % 4))
+      Decides-and (eqb (e / 4) p.component) (lies (l.kind p.component) p.side (e % 4))
       (Decides-eqb (e / 4) p.component)
       (decides_lies (l.kind p.component) p.side (e % 4))
 
@@ -82,10 +82,10 @@ module _ (l : Layout) where
 
   decides_starts : (e : ℕ) → Decides (starts e) (Starts l e)
   decides_starts e =
-      Decides_like (starts e) (λ h. (h.0, h.1.0, h.1.1)) (λ h. (h.0, (h.1, h.2)))
-      (Decides_and (eqb (e % 4) 0) (ltb (e / 4) l.count && is_signal (l.kind (e / 4)))
+      Decides-like (starts e) (λ h. (h.0, h.1.0, h.1.1)) (λ h. (h.0, (h.1, h.2)))
+      (Decides-and (eqb (e % 4) 0) (ltb (e / 4) l.count && is_signal (l.kind (e / 4)))
       (Decides-eqb (e % 4) 0)
-      (Decides_and (ltb (e / 4) l.count) (is_signal (l.kind (e / 4))) (Decides-ltb (e / 4) l.count) (decides_signal (l.kind (e / 4)))))
+      (Decides-and (ltb (e / 4) l.count) (is_signal (l.kind (e / 4))) (Decides-ltb (e / 4) l.count) (decides_signal (l.kind (e / 4)))))
 
   abbrev comes_next : List ℕ → ℕ → Bool
   comes_next [] e = starts e
@@ -100,7 +100,7 @@ module _ (l : Layout) where
   may q e = comes_next q e && is_new e q
 
   pub decides_may : (q : List ℕ) (e : ℕ) → Decides (may q e) (May l q e)
-  decides_may q e = Decides_and (comes_next q e) (is_new e q) (decides_next q e) (decides_new q e)
+  decides_may q e = Decides-and (comes_next q e) (is_new e q) (decides_next q e) (decides_new q e)
 
   -- the entries go on from a path
   abbrev pub goes_on : List ℕ → List ℕ → Bool
@@ -130,7 +130,7 @@ module _ (l : Layout) where
 
   pub decides_ends : (es : List ℕ) → Decides (ends es) (Ends l es)
   decides_ends es =
-      Decides_and (leb 2 (length es)) (guards (l.kind (last_of es / 4)) (heading l es))
+      Decides-and (leb 2 (length es)) (guards (l.kind (last_of es / 4)) (heading l es))
       (leb-true 2 (length es), le-leb 2 (length es))
       (decides_guards (l.kind (last_of es / 4)) (heading l es))
 
@@ -139,7 +139,7 @@ module _ (l : Layout) where
 
   pub decides_route : (es : List ℕ) → Decides (is_route es) (Route l es)
   decides_route es =
-      Decides_like (is_route es)
+      Decides-like (is_route es)
       (λ h. let two = h.1.0 in (begun_path l es (omega arith) h.0, h.1))
       (λ h. (path_begun l es h.0, h.1))
-      (Decides_and (goes_on [] es) (ends es) (decides_begun es) (decides_ends es))
+      (Decides-and (goes_on [] es) (ends es) (decides_begun es) (decides_ends es))

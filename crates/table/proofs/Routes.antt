@@ -1,9 +1,9 @@
 -- Which lists are the routes of a layout, found by trying every entry, and which route comes next.
 use Rattle.std.proofs.Common.{◌≡◌, ℕ, zero, suc, ◌+◌, ◌*◌, ◌<◌, Bool, true, false, cond, ◌&&◌, ◌||◌, eqb, ltb, List, [], ◌∷◌, ◌++◌, length, get_or, take, Decides, sym, refl, ap, ◌∙◌, subst, ⊎_elim, append_assoc, append-nil, arith}
-use Rattle.std.proofs.ByRecursion.{All_get_or, Decides-by_and}
+use Rattle.std.proofs.ByRecursion.{All-get_or, Decides-by_and}
 use Rattle.std.proofs.lemmas.List.{get_or-take, length-take-le}
 use Rattle.std.proofs.lemmas.Bool.{false≢true, eqb-true, and_parts, or_cases, cases_order}
-use Rattle.std.proofs.lemmas.Bool.Decides.{Decides-eqb, Decides-ltb, Decides-and, Decides_or, Decides-below_and}
+use Rattle.std.proofs.lemmas.Bool.Decides.{Decides-eqb, Decides-ltb, Decides-and, Decides-or, Decides-below_and}
 use Rattle.plan.specs.Layout.{Layout, Lawful}
 use Rattle.route.specs.Order.{Before}
 use Rattle.route.specs.Paths.{Route}
@@ -54,7 +54,7 @@ decides_before [] [] = (λ h. false≢true h, λ h. absurd h)
 decides_before [] (y ∷ ys) = (λ h. tt, λ h. refl)
 decides_before (x ∷ xs) [] = (λ h. false≢true h, λ h. absurd h)
 decides_before (x ∷ xs) (y ∷ ys) =
-    Decides_or (ltb x y) (eqb x y && comes_before xs ys) (Decides-ltb x y)
+    Decides-or (ltb x y) (eqb x y && comes_before xs ys) (Decides-ltb x y)
     (Decides-and (eqb x y) (comes_before xs ys) (Decides-eqb x y) (decides_before xs ys))
 
 abbrev all_after : List ℕ → List (List ℕ) → Bool
@@ -70,7 +70,7 @@ ascending [] h i j low high = absurd (omega arith)
 ascending (r ∷ rows) h i zero low high = absurd (omega arith)
 ascending (r ∷ rows) h zero (suc j) low high =
     let p = and_parts (all_after r rows) (ascends rows) h in
-    All_get_or (Before r) rows j [] (omega arith)
+    All-get_or (Before r) rows j [] (omega arith)
     ((Decides-by_and (comes_before r) (Before r) (all_after r) (decides_before r) refl (λ _ _. refl) rows).0 p.0)
 ascending (r ∷ rows) h (suc i) (suc j) low high =
     let p = and_parts (all_after r rows) (ascends rows) h in
@@ -130,7 +130,7 @@ module _ (l : Layout) (lawful : Lawful l) (rows : List (List ℕ)) where
       let each = (Decides-by_and (is_route l) (Route l) all_routes (decides_route l) refl (λ _ _. refl) rows).0 p.1 in
       let out : AllOut l rows = λ r t. covered (suc l.count) [] r q.0 t in (
         record {
-          routes = λ i low. All_get_or (Route l) rows i [] low each;
+          routes = λ i low. All-get_or (Route l) rows i [] low each;
           ascending = ascending rows q.1;
           none_left_out = λ i low r t b. out r t;
         },

@@ -6,11 +6,11 @@ use Rattle.day.proofs.performing.perform.Goals as goal
 pub returns-in-Turn : goal.returns-in-Turn
 returns-in-Turn g c =
     let e = c.turn-answer.ensures in
-    let long : length c.turn-answer.new.space ≡ c.in-Turn.space.len = c.turn-answer.auto.space ∙ c.deref-mut.ensures.len in
+    let long : length c.turn-answer.new.space ≡ c.in-Turn.space.len = c.turn-answer.auto.space ∙ c.deref_mut.ensures.len in
     record {
       step = λ j kept.
-          step_turned _ j c.turn-answer.new.self _ c.args.order c.in-Turn.space _ c.deref-mut.result.now c.turn-answer.new.space c.turn-answer.result
-          c.in-Turn.is c.deref-mut.ensures.value (sym (with_items_is c.in-Turn.space c.turn-answer.new.space long)) (e.journal j kept);
+          step_turned _ j c.turn-answer.new.self _ c.args.order c.in-Turn.space _ c.deref_mut.result.now c.turn-answer.new.space c.turn-answer.result
+          c.in-Turn.is c.deref_mut.ensures.value (sym (with_items_is c.in-Turn.space c.turn-answer.new.space long)) (e.journal j kept);
       plan = e.plan;
       len = omega arith;
       capacity = refl;

@@ -40,7 +40,7 @@ returns g c =
     let l = g.P.Plan.layout c.args.station.now.register.plan in
     let none : c.loop-order.order-iterator.rest.items ≡ [] = nil_from_length c.loop-order.order-iterator.rest.items (sym c.loop-order.order-iterator.rest.ok.0 ∙ c.in-None.ensures.steps.0) in
     let all : c.loop-order.yielded ≡ vec_items c.args.orders =
-    sym (append-nil c.loop-order.yielded) ∙ ap (λ (xs : List Order). c.loop-order.yielded ++ xs) (sym none) ∙ sym c.loop-order.invariant.6 ∙ c.into-iter-order-iterator.ensures.into-iter-gives.0 in
+    sym (append-nil c.loop-order.yielded) ∙ ap (λ (xs : List Order). c.loop-order.yielded ++ xs) (sym none) ∙ sym c.loop-order.invariant.6 ∙ c.into_iter-order-iterator.ensures.into_iter_gives.0 in
     record {
       served = λ j kept.
           let F : List Order → Type 0 = λ os. Served l j (serials (vec_items c.args.pool.now)) os (vec_items c.loop-order.answers) (serials (vec_items c.loop-order.pool)) c.loop-order.station in
