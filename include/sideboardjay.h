@@ -1,6 +1,6 @@
 /* Plan files and rows: calls on byte strings that answer plain numbers.
  *
- * Link target/staticlib/libtablet.a, which `rt staticlib tablet` proves and builds. It needs memcpy and memset of the C
+ * Link crates/tablet/out/libtablet.a, which `rt lib` in crates/tablet proves and builds. It needs memcpy and memset of the C
  * library and nothing else: the calls allocate nothing, keep nothing and write to no memory of the caller but the
  * answer. So they may run at the same time in several threads.
  *

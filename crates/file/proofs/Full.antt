@@ -13,7 +13,7 @@ use Rattle.plan.specs.Layout.{Layout, Lawful, is_switch, is_port, has_side, side
 use Rattle.plan.proofs.Ports.{far_port}
 use Rattle.file.specs.Contents.{port, signal_count, switches_at, switch_count, straights_at, straight_count, components, kind_of, section_of, direction_at, port_of, field_at, stored, port_in, layout_of}
 use Rattle.file.specs.Members.{tally, belongs, members}
-use Rattle.file.specs.Readings.{is_letter, same_direction, opposed}
+use Rattle.file.specs.Readings.{is_letter, same_direction}
 use Rattle.file.specs.FileOf.{far_code, letter_of, FileWith, Connected}
 use Rattle.file.proofs.Tally.{tally_same}
 use Rattle.file.proofs.Whole.{Whole}

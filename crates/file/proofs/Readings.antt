@@ -1,5 +1,5 @@
 -- The parts of the readings, one after the other.
-use Rattle.std.proofs.Common.{◌≡◌, ℕ, ◌+◌, Bool, true, false, cond, ltb, List, [], ◌++◌, Some, None, Ok, refl, ap}
+use Rattle.std.proofs.Common.{◌≡◌, ℕ, ◌+◌, Bool, true, false, cond, ltb, List, [], Some, None, Ok, refl, ap}
 use Rattle.fault.specs.declared.kinds.PlanFault.{PlanFault}
 use Rattle.fault.specs.declared.kinds.PlanFault.TheVariants.{NoSuchPart}
 use Rattle.plan.specs.declared.parts.Side.TheVariants.{West, East, Branch}

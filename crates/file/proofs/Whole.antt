@@ -1,6 +1,6 @@
 -- What the first reading finds: the file is as long as its counts say, no more than 512 of each are counted, and the
 -- letters are letters.
-use Rattle.std.proofs.Common.{◌≡◌, ℕ, zero, suc, ◌+◌, ◌-◌, ◌*◌, ◌<◌, ◌≤◌, true, leb, List, ◌++◌, length, get_or, refl, arith}
+use Rattle.std.proofs.Common.{◌≡◌, ℕ, zero, suc, ◌+◌, ◌*◌, ◌<◌, ◌≤◌, true, leb, List, ◌++◌, length, get_or, refl, arith}
 use Rattle.std.proofs.lemmas.Bool.{leb-true, le-leb}
 use Rattle.file.specs.declared.sorts.Sort.{Sort}
 use Rattle.file.specs.declared.sorts.Sort.TheVariants.{Signal, Switch, Straight, PointSection}

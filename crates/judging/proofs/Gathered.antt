@@ -1,11 +1,11 @@
 -- A set gathers the components of a list, entry by entry.
-use Rattle.std.proofs.Common.{◌≡◌, ℕ, ◌+◌, ◌/◌, ◌<◌, ◌≤◌, min, false, eqb, List, [], ◌∷◌, ◌++◌, length, get_or, take, sym, refl, ap, ◌∙◌, ⊎_elim, arith}
+use Rattle.std.proofs.Common.{◌≡◌, ℕ, ◌+◌, ◌/◌, ◌<◌, min, false, eqb, List, [], ◌∷◌, ◌++◌, length, get_or, take, sym, ap, ◌∙◌, ⊎_elim, arith}
 use Rattle.std.proofs.lemmas.List.{take_more}
 use Rattle.std.proofs.lemmas.Bool.{cases_eq}
 use Rattle.sets.specs.declared.set.ComponentSet.{ComponentSet}
 use Rattle.sets.specs.Members.{has, joined}
 use Rattle.sets.proofs.Membership.{joined_here, joined_else, not_in}
-use Rattle.route.specs.Components.{times, on}
+use Rattle.route.specs.Components.{on}
 use Rattle.route.specs.Growth.{New}
 use Rattle.route.proofs.Counts.{times_none, times_push, one_here, one_else, none_new, some_old}
 

@@ -1,13 +1,13 @@
 -- Walking along a row.
-use Rattle.std.proofs.Common.{◌≡◌, ℕ, ◌+◌, ◌-◌, ◌/◌, ◌<◌, ◌≤◌, List, [], ◌∷◌, ◌++◌, length, get_or, take, sym, refl, ap, ◌∙◌, subst, arith}
+use Rattle.std.proofs.Common.{◌≡◌, ℕ, ◌+◌, ◌-◌, ◌/◌, ◌<◌, List, length, get_or, take, sym, ap, ◌∙◌, subst, arith}
 use Rattle.std.proofs.lemmas.List.{take_more}
 use Rattle.plan.specs.declared.parts.Direction.{Direction}
 use Rattle.plan.specs.declared.parts.Kind.TheVariants.{Signal}
 use Rattle.plan.specs.Layout.{Layout, Lawful, direction_of}
 use Rattle.sets.specs.declared.set.ComponentSet.{ComponentSet}
 use Rattle.sets.specs.Members.{has, joined}
-use Rattle.route.specs.Paths.{Starts, Follows, heading}
-use Rattle.route.specs.Growth.{New, Next, May, Begun}
+use Rattle.route.specs.Paths.{Follows}
+use Rattle.route.specs.Growth.{Next, May, Begun}
 use Rattle.route.proofs.Ending.{next_below}
 use Rattle.route.proofs.Growth.{grown_push}
 use Rattle.route.proofs.Places.{next_at}

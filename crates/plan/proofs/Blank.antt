@@ -1,8 +1,8 @@
 -- A blank matches nothing.
-use Rattle.std.proofs.Common.{◌≡◌, ℕ, Bool, true, false, cond, ◌&&◌, Some, None, Ok, Err, Option, Result, sym, refl, ap, ◌∙◌, arith}
+use Rattle.std.proofs.Common.{◌≡◌, ℕ, Bool, true, false, ◌&&◌, Some, None, Ok, Option, Result, ap, arith}
 use Rattle.fault.specs.declared.kinds.PlanFault.{PlanFault}
 use Rattle.plan.specs.declared.parts.Port.{Port}
-use Rattle.plan.specs.Layout.{Layout, Lawful, told, is_port, leads_to, told_connected}
+use Rattle.plan.specs.Layout.{told, is_port, leads_to, told_connected}
 use Rattle.plan.specs.Blanks.{BlanksMatchNothing}
 use Rattle.plan.proofs.Ports.{leads, led, and, far_port}
 

@@ -1,9 +1,9 @@
 -- A tree of lists: an entry may stand after a list, or not.
-use Rattle.std.proofs.Common.{◌≡◌, ℕ, zero, suc, ◌+◌, ◌<◌, ◌≤◌, ◌⊎◌, List, [], ◌∷◌, ◌++◌, length, get_or, take, sym, refl, ap, ◌∙◌, subst, inl, inr, ⊎_elim, arith, length-append}
-use Rattle.std.proofs.lemmas.List.{take_at, get_or_at, take-append-le, get_or_append_left, length_push, take_all, get_or_push}
+use Rattle.std.proofs.Common.{◌≡◌, ℕ, ◌<◌, ◌≤◌, List, [], ◌∷◌, ◌++◌, length, get_or, take, sym, refl, subst, ⊎_elim, arith, length-append}
+use Rattle.std.proofs.lemmas.List.{take_at, get_or_at, take-append-le, get_or_append_left, length_push}
 use Rattle.std.proofs.lemmas.Bool.{cases_lt}
 use Rattle.route.specs.Growth.{Grown}
-use Rattle.route.proofs.Lex.{Upto, Past, parts, past_upto, past_next, upto_raise}
+use Rattle.route.proofs.Lex.{Upto, Past, parts, past_upto, upto_raise}
 
 module _ (May : List ℕ → ℕ → Type 0) where
   pub grown_at : (q t : List ℕ) (e : ℕ) → Grown May (q ++ e ∷ t) → May q e

@@ -1,10 +1,10 @@
 -- A path is a list that has grown, and is not empty.
-use Rattle.std.proofs.Common.{◌≡◌, ℕ, zero, suc, ◌+◌, ◌-◌, ◌/◌, ◌<◌, ◌≤◌, List, [], ◌∷◌, length, get_or, take, sym, refl, ap, ◌∙◌, subst, add-one, arith}
+use Rattle.std.proofs.Common.{◌≡◌, ℕ, zero, suc, ◌-◌, ◌/◌, ◌<◌, List, [], ◌∷◌, length, get_or, take, sym, refl, ap, ◌∙◌, subst, add-one, arith}
 use Rattle.std.proofs.lemmas.List.{get_or-take, length-take-le}
 use Rattle.plan.specs.declared.parts.Direction.{Direction}
 use Rattle.plan.specs.Layout.{Layout, direction_of}
 use Rattle.route.specs.Paths.{Follows, heading, last_of, Path}
-use Rattle.route.specs.Growth.{New, Next, May, Begun}
+use Rattle.route.specs.Growth.{Next, Begun}
 
 abbrev T : Type 0 → Type 0
 T X = X

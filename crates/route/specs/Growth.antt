@@ -1,7 +1,7 @@
 -- Paths as they grow, entry by entry, from the empty list.
-use Rattle.std.specs.Prelude.{◌≡◌, ℕ, ◌/◌, ◌<◌, List, [], ◌∷◌, length, take, ◌≢◌, slice_index}
+use Rattle.std.specs.Prelude.{ℕ, ◌/◌, ◌<◌, List, [], ◌∷◌, length, take, ◌≢◌, slice_index}
 use Rattle.plan.specs.Layout.{Layout}
-use Rattle.route.specs.Paths.{Starts, Follows, heading, last_of, Path}
+use Rattle.route.specs.Paths.{Starts, Follows, heading, last_of}
 
 -- each entry may stand after those that come before it
 abbrev pub Grown : (List ℕ → ℕ → Type 0) → List ℕ → Type 0

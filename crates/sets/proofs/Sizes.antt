@@ -1,6 +1,6 @@
 -- How many components a set has, as it grows and shrinks.
 use Rattle.std.proofs.Common.{◌≡◌, ℕ, zero, suc, ◌+◌, ◌<◌, ◌≤◌, sym, refl, ap, ◌∙◌, ⊎_elim, arith}
-use Rattle.std.proofs.lemmas.Bool.{cases_lt, cases_eq}
+use Rattle.std.proofs.lemmas.Bool.{cases_eq}
 use Rattle.sets.specs.declared.set.ComponentSet.{ComponentSet}
 use Rattle.sets.specs.Members.{has, joined, left, sum_below, size}
 use Rattle.sets.proofs.Counting.{sum_same, sum_le}

@@ -1,5 +1,5 @@
 -- Which components are in a set, and how many are in two.
-use Rattle.std.specs.Prelude.{ℕ, zero, suc, ◌+◌, ◌*◌, ◌/◌, ◌%◌, ◌^◌, min, cond, ◌&&◌, List, ◌==◌, nat_lt, slice_index}
+use Rattle.std.specs.Prelude.{ℕ, zero, suc, ◌+◌, ◌/◌, ◌%◌, ◌^◌, min, cond, ◌&&◌, List, ◌==◌, nat_lt, slice_index}
 use Rattle.sets.specs.declared.set.ComponentSet.{ComponentSet}
 
 -- bit j of n

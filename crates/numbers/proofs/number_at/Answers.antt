@@ -1,4 +1,4 @@
-use Rattle.std.proofs.Common.{◌≡◌, ◌+◌, ◌≤◌, length, arith}
+use Rattle.std.proofs.Common.{◌+◌, ◌≤◌, length, arith}
 use Rattle.std.proofs.lemmas.List.{get_or_past}
 use Rattle.numbers.proofs.number_at.Goals as goal
 use Rattle.numbers.proofs.number_at.Goals.{else-n-ge2-via-then-n-ge2+else-i-n, else-n-ge2-via-else-n-ge2}

@@ -1,4 +1,4 @@
-use Rattle.std.proofs.Common.{◌≡◌, ◌/◌, ◌%◌, sym, ap, ◌∙◌}
+use Rattle.std.proofs.Common.{◌/◌, ◌%◌, sym, ap, ◌∙◌}
 use Rattle.plan.proofs.Tellings.{kind_given, kind_refused, far_given}
 use Rattle.route.specs.Paths.{leaves_by}
 use Rattle.route.proofs.Following.{none_beyond}

@@ -1,4 +1,4 @@
-use Rattle.std.proofs.Common.{◌≡◌, sym, arith}
+use Rattle.std.proofs.Common.{sym, arith}
 use Rattle.plan.proofs.Ports.{far_below}
 use Rattle.plan.proofs.Tellings.{kind_given, kind_refused}
 use Rattle.route.proofs.Following.{follows_exactly}

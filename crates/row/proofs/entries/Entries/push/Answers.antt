@@ -1,4 +1,4 @@
-use Rattle.std.proofs.Common.{◌<◌, ◌≢◌, length, arith, length-set, rules}
+use Rattle.std.proofs.Common.{◌<◌, length, arith, length-set, rules}
 use Rattle.std.proofs.lemmas.List.{take_more_set, length-take-le}
 use Rattle.std.proofs.lemmas.Bool.{true≢false}
 use Rattle.row.proofs.Fronts.{small_more}

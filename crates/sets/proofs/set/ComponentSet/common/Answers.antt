@@ -1,4 +1,4 @@
-use Rattle.std.proofs.Common.{◌≡◌, ◌+◌, ◌*◌, ◌^◌, ◌<◌, ◌≤◌, get_or, sym, refl, ap, ◌∙◌, arith}
+use Rattle.std.proofs.Common.{◌≡◌, ◌+◌, ◌*◌, ◌^◌, ◌<◌, get_or, sym, refl, ap, ◌∙◌, arith}
 use lib.Bits.{bit_and, and_le_l}
 use lib.Count.{ones, ones-le}
 use Rattle.sets.specs.Members.{sum_below, has}

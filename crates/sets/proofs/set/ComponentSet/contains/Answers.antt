@@ -1,4 +1,4 @@
-use Rattle.std.proofs.Common.{◌≡◌, ◌/◌, ◌%◌, ◌^◌, eqb, get_or, sym, ap, arith}
+use Rattle.std.proofs.Common.{◌/◌, ◌%◌, ◌^◌, eqb, get_or, sym, ap, arith}
 use lib.Bits.{and_mask}
 use Rattle.sets.specs.Members.{has}
 use Rattle.sets.proofs.Membership.{has_past}
