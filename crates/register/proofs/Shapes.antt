@@ -1,5 +1,5 @@
 -- A route's entries have the shape of a row.
-use Rattle.std.proofs.Common.{◌≡◌, ℕ, zero, suc, ◌+◌, ◌/◌, ◌%◌, ◌<◌, ◌≤◌, Bool, true, false, cond, ◌&&◌, eqb, ltb, leb, ◌⊎◌, List, [], ◌∷◌, length, get_or, take, Some, None, Option, sym, refl, ap, ◌∙◌, subst, ⊎_elim, arith}
+use Rattle.std.proofs.Common.{◌≡◌, ℕ, ◌%◌, ◌<◌, Bool, true, false, cond, ◌&&◌, ◌⊎◌, List, [], ◌∷◌, length, get_or, take, Some, None, Option, ⊎_elim, arith}
 use Rattle.std.proofs.lemmas.Bool.{lt-ltb, le-leb}
 use Rattle.plan.specs.declared.parts.Kind.{Kind}
 use Rattle.plan.specs.declared.parts.Kind.TheVariants.{Signal, Switch, Straight}
@@ -7,7 +7,7 @@ use Rattle.plan.specs.declared.parts.Side.{Side}
 use Rattle.plan.specs.declared.parts.Side.TheVariants.{West, East, Branch}
 use Rattle.plan.specs.declared.parts.Port.{Port}
 use Rattle.plan.specs.Layout.{Layout, Lawful, same_side}
-use Rattle.row.specs.Row.{entry_ok, is_entries}
+use Rattle.row.specs.Row.{is_entries}
 use Rattle.row.proofs.Rows.{ok_from}
 use Rattle.route.specs.Paths.{root, trailing, MayLie, Enters, exit_of, heading, last_of, Route}
 use Rattle.route.specs.Growth.{Next}

@@ -1,5 +1,5 @@
 -- The register from one call to the next.
-use Rattle.std.proofs.Common.{◌≡◌, ℕ, ◌+◌, ◌<◌, ◌≤◌, Bool, true, false, cond, ◌⊎◌, List, [], ◌∷◌, ◌++◌, length, Err, sym, refl, ap, ◌∙◌, subst, inl, inr, ⊎_elim, arith}
+use Rattle.std.proofs.Common.{◌≡◌, ℕ, ◌<◌, Bool, true, false, List, [], ◌∷◌, ◌++◌, length, Err, sym, ap, subst, inl, inr, ⊎_elim, arith}
 use Rattle.fault.specs.declared.kinds.BoxFault.{BoxFault}
 use Rattle.fault.specs.declared.kinds.BoxFault.TheVariants.{ShortSpace}
 use Rattle.row.specs.Row.{bytes_of}

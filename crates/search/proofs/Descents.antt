@@ -1,5 +1,5 @@
 -- One step down the tree of paths.
-use Rattle.std.proofs.Common.{◌≡◌, ℕ, ◌≤◌, Bool, true, false, List, Some, None, Option, sym, refl, subst}
+use Rattle.std.proofs.Common.{◌≡◌, ℕ, ◌≤◌, Bool, true, false, List, Some, None, Option, refl, subst}
 use Rattle.plan.specs.Layout.{Layout, Lawful}
 use Rattle.route.specs.Growth.{Begun, Next}
 use Rattle.search.specs.declared.position.Position.{Position}

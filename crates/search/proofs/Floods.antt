@@ -1,19 +1,19 @@
 -- The flood, component by component.
-use Rattle.std.proofs.Common.{◌≡◌, ℕ, ◌+◌, ◌-◌, ◌*◌, ◌/◌, ◌%◌, ◌<◌, ◌≤◌, ◌⊎◌, sym, refl, ap, ◌∙◌, subst, inl, inr, ⊎_elim, arith}
+use Rattle.std.proofs.Common.{◌≡◌, ℕ, ◌+◌, ◌*◌, ◌/◌, ◌<◌, ◌≤◌, ◌⊎◌, sym, refl, ap, ◌∙◌, subst, inl, inr, ⊎_elim, arith}
 use Rattle.std.proofs.lemmas.Bool.{cases_eq, cases_lt}
 use Rattle.plan.specs.declared.parts.Direction.{Direction}
 use Rattle.plan.specs.declared.parts.Kind.TheVariants.{Signal}
 use Rattle.plan.specs.Layout.{Layout}
 use Rattle.sets.specs.declared.set.ComponentSet.{ComponentSet}
 use Rattle.sets.specs.Members.{has, joined, left, size}
-use Rattle.sets.proofs.Membership.{has_low, joined_here, joined_else, left_here, left_else}
+use Rattle.sets.proofs.Membership.{has_low, joined_here, joined_else, left_else}
 use Rattle.sets.proofs.Sizes.{size_most, size_joined, size_left}
 use Rattle.route.specs.declared.steps.Range.{Range}
 use Rattle.route.specs.Paths.{Follows}
 use Rattle.route.specs.Steps.{Exactly}
 use Rattle.route.proofs.Following.{follows_one, follows_either}
 use Rattle.search.specs.declared.flood.Flood.{Flood}
-use Rattle.search.specs.Reach.{Covers, Marked, GoneOn, Past, Settled, to_do}
+use Rattle.search.specs.Reach.{Covers, Marked, GoneOn, Past, Settled}
 
 pub covers_more : (l : Layout) (d : Direction) (e : ℕ) (s s' : ComponentSet) → ((c : ℕ) → has s c ≤ has s' c) → Covers l d e s → Covers l d e s'
 covers_more l d e s s' keeps covers e' h =

@@ -1,5 +1,5 @@
 -- A number that orders the lists of at most 513 numbers up to 2048, so that a search that goes forward ends.
-use Rattle.std.proofs.Common.{◌≡◌, ℕ, zero, suc, ◌+◌, ◌-◌, ◌*◌, ◌^◌, ◌<◌, ◌≤◌, ◌⊎◌, List, [], ◌∷◌, ◌++◌, length, get_or, sym, refl, ap, ◌∙◌, subst, inl, inr, ⊎_elim, suc-le-suc, mul-le-mul_right, add-mul, arith}
+use Rattle.std.proofs.Common.{ℕ, zero, suc, ◌+◌, ◌-◌, ◌*◌, ◌^◌, ◌<◌, ◌≤◌, List, [], ◌∷◌, length, get_or, ap, inl, inr, suc-le-suc, mul-le-mul_right, add-mul, arith}
 use native.Mathlib.Nat.{pow-succ', pow-zero}
 use Rattle.route.specs.Order.{Before}
 

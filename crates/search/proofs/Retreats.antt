@@ -1,5 +1,5 @@
 -- Going back past entries that no other can stand in the place of.
-use Rattle.std.proofs.Common.{◌≡◌, ℕ, zero, suc, ◌+◌, ◌/◌, ◌%◌, ◌<◌, ◌≤◌, Bool, true, false, cond, ◌⊎◌, List, [], ◌∷◌, ◌++◌, length, get_or, take, Some, None, Option, sym, refl, ap, ◌∙◌, subst, ⊎_elim, arith, length-append}
+use Rattle.std.proofs.Common.{◌≡◌, ℕ, zero, suc, ◌+◌, ◌%◌, ◌<◌, ◌≤◌, Bool, true, false, cond, ◌⊎◌, List, [], ◌∷◌, ◌++◌, length, get_or, take, Some, None, Option, sym, ap, ◌∙◌, subst, ⊎_elim, arith, length-append}
 use Rattle.std.proofs.lemmas.List.{append_assoc, take_more, take_all, get_or-take, length-take-le}
 use Rattle.plan.specs.declared.parts.Kind.{Kind}
 use Rattle.plan.specs.declared.parts.Kind.TheVariants.{Signal, Switch, Straight}
@@ -7,7 +7,7 @@ use Rattle.plan.specs.declared.parts.Side.{Side}
 use Rattle.plan.specs.declared.parts.Port.{Port}
 use Rattle.plan.specs.Layout.{Layout, same_side}
 use Rattle.route.specs.Paths.{root, trailing, MayLie, Enters, exit_of, heading, last_of}
-use Rattle.route.specs.Growth.{Next, May, Begun}
+use Rattle.route.specs.Growth.{May}
 use Rattle.route.proofs.Growth.{grown_at}
 use Rattle.search.specs.Found.{Least}
 use Rattle.search.proofs.Forward.{Ahead, ahead_back}

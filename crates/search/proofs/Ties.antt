@@ -1,11 +1,11 @@
 -- The set beside the path keeps up with it.
-use Rattle.std.proofs.Common.{◌≡◌, ℕ, ◌+◌, ◌/◌, ◌<◌, ◌≤◌, true, ◌&&◌, eqb, ltb, List, [], ◌∷◌, ◌++◌, sym, refl, ap, ◌∙◌, ⊎_elim, arith}
+use Rattle.std.proofs.Common.{◌≡◌, ℕ, ◌/◌, ◌<◌, true, ◌&&◌, ltb, List, [], ◌∷◌, ◌++◌, refl, ap, ◌∙◌, ⊎_elim, arith}
 use Rattle.std.proofs.lemmas.Bool.{cases_eq, lt-ltb}
 use Rattle.sets.specs.declared.set.ComponentSet.{ComponentSet}
 use Rattle.sets.specs.Members.{has, joined, left}
 use Rattle.sets.proofs.Membership.{has_low, joined_here, joined_else, left_here, left_else}
 use Rattle.route.specs.Components.{times}
-use Rattle.route.proofs.Counts.{times_push, one_of, one_here, one_else}
+use Rattle.route.proofs.Counts.{times_push, one_here, one_else}
 
 abbrev Tied : ComponentSet → List ℕ → Type 0
 Tied s q = (c : ℕ) → has s c ≡ times c q

@@ -1,5 +1,5 @@
 -- One turn of the search, on positions.
-use Rattle.std.proofs.Common.{◌≡◌, ℕ, ◌+◌, ◌<◌, ◌≤◌, Bool, true, false, List, [], ◌∷◌, ◌++◌, length, Some, None, sym, refl, ap, ◌∙◌, subst, arith}
+use Rattle.std.proofs.Common.{◌≡◌, ℕ, ◌+◌, ◌<◌, ◌≤◌, true, false, List, [], ◌∷◌, ◌++◌, length, Some, None, sym, refl, ap, ◌∙◌, subst, arith}
 use Rattle.plan.specs.Layout.{Layout}
 use Rattle.route.specs.Paths.{Ends}
 use Rattle.route.specs.Growth.{May, Begun}

@@ -1,5 +1,5 @@
 -- What the search for the next route answers.
-use Rattle.std.specs.Prelude.{◌≡◌, ℕ, ◌<◌, ◌≤◌, Bool, true, false, ◌⊎◌, List, [], ◌∷◌, ◌++◌, length, Some, None, Option}
+use Rattle.std.specs.Prelude.{◌≡◌, ℕ, ◌<◌, ◌≤◌, Bool, true, false, ◌⊎◌, List, [], ◌∷◌, ◌++◌, Some, None, Option}
 use Rattle.plan.specs.Layout.{Layout}
 use Rattle.route.specs.Order.{Before}
 use Rattle.route.specs.Paths.{Route}
