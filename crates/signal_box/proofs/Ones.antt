@@ -1,5 +1,5 @@
 -- Tests in a fixed order give one answer.
-use Rattle.std.proofs.Common.{◌≡◌, ℕ, ◌+◌, ◌≤◌, List, ◌++◌, length, drop, Some, None, Ok, Err, Option, Result, sym, refl, ap, ◌∙◌, inl, inr, arith}
+use Rattle.std.proofs.Common.{◌≡◌, ℕ, ◌≤◌, List, ◌++◌, length, drop, Some, None, Ok, Err, Option, Result, sym, refl, ap, ◌∙◌, inl, inr, arith}
 use Rattle.fault.specs.declared.kinds.BoxFault.{BoxFault}
 use Rattle.fault.specs.declared.kinds.BoxFault.TheVariants.{Plan, NoSuchSection, ShortSpace, Drained, RowsSpent, Conflict, OtherPosition, Occupied, FrameFull, SlipsSpent, UnknownSlip}
 use Rattle.fault.specs.declared.kinds.PlanFault.TheVariants.{NoSuchPart}

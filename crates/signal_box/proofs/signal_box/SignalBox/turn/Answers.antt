@@ -1,6 +1,5 @@
 use Rattle.std.proofs.Common.{ap}
 use Rattle.register.specs.declared.registers.Register.{Register}
-use Rattle.signal_box.specs.declared.signal_box.SignalBox.{SignalBox}
 use Rattle.signal_box.proofs.Notes.{turned}
 use Rattle.signal_box.proofs.signal_box.SignalBox.turn.Goals as goal
 
