@@ -1,6 +1,6 @@
 -- The table: each row is a test that computes, and what passes its test holds.
 use Rattle.std.proofs.Common.{◌≡◌, ℕ, true, ltb, List, [], ◌++◌, length, get_or, Ok, Err, Option, sym, refl, ap, ◌∙◌, subst}
-use Rattle.std.specs.List.{AllByRecursion as All}
+use Rattle.std.specs.List.{AllByRecursion}
 use Rattle.std.proofs.lemmas.Bool.{ltb-true}
 use Rattle.std.proofs.ByRecursion.{All-append, All-weaker}
 use Rattle.file.specs.Checks.{each}
@@ -57,23 +57,23 @@ meets (Throws es c p r) h =
     let T : Option BoxFault → Type 0 = λ o. Throwing station b c o in
     subst T (sym h.2) (throwing station b c (ltb-true c station.count h.0, h.1))
 
-file_tests : All Test file_examples
+file_tests : AllByRecursion Test file_examples
 unfolding one_switch signal_count switch_count straight_count section_count each tally section_checks signal_section switch_section straight_section point_sections first_reading blank_check field_checks port_checks switch_checks component_checks section_check second_reading look
 file_tests = (accepted, (refl, (refl, (refl, (refl, (refl, tt))))))
 
-register_tests : All Test register_examples
+register_tests : AllByRecursion Test register_examples
 unfolding routes words
 register_tests = (refl, (refl, ((refl, refl, refl), ((refl, refl, refl), (refl, tt)))))
 
-row_tests : All Test row_examples
+row_tests : AllByRecursion Test row_examples
 unfolding one_switch station signal_count switch_count straight_count all_ok numbers_from entries_of times sum_below
 row_tests = (refl, (refl, (refl, (refl, (refl, tt)))))
 
-box_tests : All Test box_examples
+box_tests : AllByRecursion Test box_examples
 unfolding one_switch station signal_count switch_count straight_count all_ok numbers_from entries_of
 box_tests = ((refl, refl, tt), ((refl, refl, refl), ((refl, refl, refl), ((refl, refl, tt), tt))))
 
-tests : All Test table
+tests : AllByRecursion Test table
 tests =
     All-append Test file_examples (register_examples ++ (row_examples ++ box_examples)) file_tests
     (All-append Test register_examples (row_examples ++ box_examples) register_tests

@@ -1,6 +1,6 @@
 -- The worked examples, one row each.
 use Rattle.std.specs.Prelude.{ℕ, ◌+◌, List, [], ◌∷◌, ◌++◌, take, Ok, Err, slice_set}
-use Rattle.std.specs.List.{AllByRecursion as All}
+use Rattle.std.specs.List.{AllByRecursion}
 use Rattle.fault.specs.declared.kinds.FileFault.TheVariants.{CutOff, LeftOver, WrongLetter}
 use Rattle.fault.specs.declared.kinds.PlanFault.TheVariants.{File, NotNamedBack, BlankPort}
 use Rattle.fault.specs.declared.kinds.BoxFault.TheVariants.{ShortSpace, Drained, Conflict, OtherPosition}
@@ -70,4 +70,4 @@ abbrev pub table : List Example
 table = file_examples ++ (register_examples ++ (row_examples ++ box_examples))
 
 unfoldable pub WorkedExamples : Type 0
-WorkedExamples = All Holds table
+WorkedExamples = AllByRecursion Holds table
