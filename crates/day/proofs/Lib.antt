@@ -1,2 +1,4 @@
 pub mod Steps
 pub mod Days
+pub mod Copies
+pub mod Balances

@@ -3,3 +3,4 @@ pub mod Performed
 pub mod Day
 pub mod Step
 pub mod Chain
+pub mod Balance

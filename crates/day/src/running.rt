@@ -2,6 +2,7 @@ ghost use Rattle.std.specs.Prelude.{◌≡◌, IfOk, OnErr};
 ghost use Rattle.frame.specs.View.{view};
 ghost use Rattle.signal_box.specs.Journal.{Journal};
 ghost use Rattle.signal_box.specs.Kept.{Kept};
+ghost use Rattle.day.specs.Balance.{Balanced};
 ghost use Rattle.day.specs.Day.{WholeDay};
 ghost use Rattle.day.specs.Pool.{serials};
 ghost use Rattle.day.specs.Chain.{Served};
@@ -31,6 +32,7 @@ pub fn run_day<P: Plan + Drop>(
 ) -> Result<DayEnd, AllocError>
     ensures day { IfOk result (λ d. WholeDay P (P.layout plan) (serials pool.old.items) orders.items d.answers.items (serials pool.new.items) (view d.frame)) }
     ensures refused { OnErr result (pool.new.items ≡ pool.old.items) }
+    ensures balance { IfOk result (λ d. Balanced (serials pool.old.items) (serials pool.new.items) (view d.frame)) }
 {
     let mut station = SignalBox::new(plan);
     let answers = serve(heap, &mut station, orders, pool)?;

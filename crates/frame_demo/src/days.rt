@@ -1,0 +1,185 @@
+ghost use Rattle.std.specs.Prelude.{◌≡◌, ℕ, ◌+◌, ◌<◌, List, [], ◌∷◌, ◌++◌, vec_len};
+ghost use Rattle.frame.specs.Book.{Book};
+ghost use Rattle.frame.specs.View.{view};
+ghost use Rattle.day.specs.Balance.{copies, open_serials, Balanced};
+ghost use Rattle.day.specs.Pool.{serials};
+ghost use Rattle.frame_demo.specs.Matched.{Matched};
+
+use crate::plans::{BY_THE_BRANCH, ONE_SWITCH, STRAIGHT_ON, TRACKS, track, tracks};
+use crate::words::{answer_words, order_words};
+use day::orders::{Answer, Order};
+use day::running::{DayEnd, run_day};
+use filed::filed::FiledPlan;
+use frame::frame::Frame;
+use frame::slip::Slip;
+use plan::parts::Position;
+use std::alloc::{AllocError, Global};
+
+// Days at two stations with one pool of slips. However far that comes before printing or memory fails, the slips of the pool
+// are then those of the open routes, so each closes its route and none is left.
+pub fn print_days(rt: &HostRuntime, pool: &mut Vec<Slip>) -> anyhow::Result<()>
+    requires { vec_len pool.old ≡ 0 }
+    ensures { vec_len pool.new ≡ 0 }
+{
+    let mut first = Frame::new();
+    let mut second = Frame::new();
+    let printed = print_both(rt, &mut first, &mut second, pool);
+    settle(&mut first, &mut second, pool);
+    printed
+}
+
+// A day at each station. The first leaves a route open, so its slip is a foreign one on the second; what the second leaves
+// in the pool is released at the first.
+fn print_both(
+    rt: &HostRuntime,
+    first: &mut Frame,
+    second: &mut Frame,
+    pool: &mut Vec<Slip>,
+) -> anyhow::Result<()>
+    requires no_slip { vec_len pool.old ≡ 0 }
+    requires first { (view first.old).opened ≡ [] }
+    requires second { (view second.old).opened ≡ [] }
+    ensures { Matched (serials pool.new.items) (view first.new) (view second.new) }
+{
+    let heap = rt.alloc();
+    let orders = one_switch_orders(heap)?;
+    print_day(rt, "one switch", &ONE_SWITCH, orders, first, pool)?;
+    let file = tracks(heap)?;
+    let orders = nine_track_orders(heap)?;
+    print_day(rt, "nine tracks", file.as_slice(), orders, second, pool)?;
+    let open = second.open_routes().len();
+    println!(rt; "{open} routes open")?;
+    print_release(rt, first, pool)
+}
+
+// Runs a day on a new box over the file's plan, and prints each order with its answer. The frame is then that of the box.
+fn print_day(
+    rt: &HostRuntime,
+    station: &str,
+    file: &[u8],
+    orders: Vec<Order>,
+    frame: &mut Frame,
+    pool: &mut Vec<Slip>,
+) -> anyhow::Result<()>
+    requires { (view frame.old).opened ≡ [] }
+    ensures { Balanced (serials pool.old.items) (serials pool.new.items) (view frame.new) }
+{
+    let heap = rt.alloc();
+    println!(rt; "{station}")?;
+    let words = all_words(heap, orders.as_slice())?;
+    let DayEnd {
+        frame: left,
+        answers,
+    } = run_day(heap, FiledPlan::take(file), orders, pool)?;
+    *frame = left;
+    print_answers(rt, words.as_slice(), answers.as_slice())
+}
+
+// The orders in words; they go into the day.
+fn all_words(heap: Global, orders: &[Order]) -> Result<Vec<String>, AllocError> {
+    let mut words = Vec::new(heap);
+    for order in orders {
+        words.push(order_words(heap, order)?)?;
+    }
+    Ok(words)
+}
+
+fn print_answers(rt: &HostRuntime, words: &[String], answers: &[Answer]) -> anyhow::Result<()> {
+    for (order, answer) in words.iter().zip(answers.iter()) {
+        let answer = answer_words(rt.alloc(), answer)?;
+        println!(rt; "  {order}: {answer}")?;
+    }
+    Ok(())
+}
+
+// Releases the last slip of the pool at the frame; where it is refused, it stays in the pool.
+fn print_release(rt: &HostRuntime, frame: &mut Frame, pool: &mut Vec<Slip>) -> anyhow::Result<()>
+    ensures { (b : Book) → Matched (serials pool.old.items) (view frame.old) b → Matched (serials pool.new.items) (view frame.new) b }
+{
+    let Some(slip) = pool.pop() else {
+        return Ok(());
+    };
+    match frame.release(slip) {
+        Ok(()) => println!(rt; "the last slip closed a route of the first station")?,
+        Err((_, slip)) => {
+            pool.push_reserved(slip);
+            println!(rt; "the last slip was refused")?;
+        }
+    }
+    Ok(())
+}
+
+// Releases every slip of the pool.
+fn settle(first: &mut Frame, second: &mut Frame, pool: &mut Vec<Slip>)
+    requires { Matched (serials pool.old.items) (view first.old) (view second.old) }
+    ensures { vec_len pool.new ≡ 0 }
+{
+    while let Some(slip) = pool.pop() {
+        close(first, second, slip);
+    }
+}
+
+// Closes the route of the slip on the frame where it is open.
+fn close(first: &mut Frame, second: &mut Frame, slip: Slip)
+    requires { 0 < copies slip.serial (open_serials (view first.old)) + copies slip.serial (open_serials (view second.old)) }
+    ensures { (p : List ℕ) → Matched (p ++ slip.serial ∷ []) (view first.old) (view second.old) → Matched p (view first.new) (view second.new) }
+{
+    match second.release(slip) {
+        Ok(()) => {}
+        Err((_, slip)) => match first.release(slip) {
+            Ok(()) => {}
+            Err((_, _slip)) => unreachable!(),
+        },
+    }
+}
+
+fn one_switch_orders(heap: Global) -> Result<Vec<Order>, AllocError> {
+    let mut orders = Vec::new(heap);
+    orders.push(Order::Turn([7; 7].to_vec(heap)?))?;
+    orders.push(Order::Turn([7; 9].to_vec(heap)?))?;
+    orders.push(Order::Open(BY_THE_BRANCH.to_vec(heap)?))?;
+    orders.push(Order::Throw(3, Position::Reverse))?;
+    orders.push(Order::Open(BY_THE_BRANCH.to_vec(heap)?))?;
+    orders.push(Order::Open(STRAIGHT_ON.to_vec(heap)?))?;
+    orders.push(Order::Throw(3, Position::Normal))?;
+    orders.push(Order::Release(0))?;
+    orders.push(Order::Release(0))?;
+    occupied_orders(heap, &mut orders)?;
+    Ok(orders)
+}
+
+// What an occupied point section refuses, numbers that name no section or switch, and the end of the register.
+fn occupied_orders(heap: Global, orders: &mut Vec<Order>) -> Result<(), AllocError> {
+    orders.push(Order::Occupy(512))?;
+    orders.push(Order::Throw(3, Position::Normal))?;
+    orders.push(Order::Open(BY_THE_BRANCH.to_vec(heap)?))?;
+    orders.push(Order::Clear(512))?;
+    orders.push(Order::Occupy(513))?;
+    orders.push(Order::Clear(0))?;
+    orders.push(Order::Throw(2, Position::Normal))?;
+    orders.push(Order::Open(BY_THE_BRANCH.to_vec(heap)?))?;
+    orders.push(Order::Open([3, 0, 0, 0, 13, 0, 8, 0].to_vec(heap)?))?;
+    orders.push(Order::Open([3, 0, 0, 0, 13, 0, 4].to_vec(heap)?))?;
+    orders.push(Order::Turn([7; 8].to_vec(heap)?))?;
+    orders.push(Order::Turn([7; 8].to_vec(heap)?))?;
+    orders.push(Order::Restart)?;
+    orders.push(Order::Turn([7; 8].to_vec(heap)?))?;
+    Ok(())
+}
+
+// A foreign slip closes the route of its serial, and the route's own slip is refused then; and a ninth route.
+fn nine_track_orders(heap: Global) -> Result<Vec<Order>, AllocError> {
+    let mut orders = Vec::new(heap);
+    orders.push(Order::Open(track(heap, 0)?))?;
+    orders.push(Order::Open(track(heap, 1)?))?;
+    orders.push(Order::Release(0))?;
+    orders.push(Order::Release(1))?;
+    orders.push(Order::Release(0))?;
+    for k in 0..TRACKS {
+        orders.push(Order::Open(track(heap, k)?))?;
+    }
+    for _ in 1..TRACKS {
+        orders.push(Order::Release(1))?;
+    }
+    Ok(orders)
+}
