@@ -17,7 +17,7 @@ use std::alloc::{AllocError, Global};
 
 // Days at two stations with one pool of slips. However far that comes before printing or memory fails, the slips of the pool
 // are then those of the open routes, so each closes its route and none is left.
-pub fn print_days(rt: &HostRuntime, pool: &mut Vec<Slip>) -> anyhow::Result<()>
+pub(crate) fn print_days(rt: &HostRuntime, pool: &mut Vec<Slip>) -> anyhow::Result<()>
     requires { vec_len pool.old ≡ 0 }
     ensures { vec_len pool.new ≡ 0 }
 {
