@@ -1,7 +1,7 @@
 ghost use Rattle.std.specs.Prelude.{◌≡◌};
-ghost use Rattle.tablet.specs.Answers.{layer_number, accepted, refused};
+ghost use Rattle.tablet.specs.Answers.{layer_number, refused, looked, judged, counted};
 
-use fault::kinds::{Layer, Told};
+use fault::kinds::{BoxFault, Layer, PlanFault, Told};
 
 // What a call answers: all 0 where it accepts, else what the fault tells.
 // The layers are numbered 1 (file), 2 (plan) and 3 (box).
@@ -31,24 +31,60 @@ fn layer_number(layer: Layer) -> u32
     }
 }
 
-impl Answer {
-    pub(crate) fn accepted() -> Answer
-        ensures { result ≡ accepted }
-    {
-        Answer {
-            layer: 0,
-            number: 0,
-            place: 0,
-        }
-    }
+impl From<Told> for Answer {
+    ghost from_gives = { λ told r. r ≡ refused told };
 
-    pub(crate) fn refused(told: Told) -> Answer
-        ensures { result ≡ refused told }
-    {
+    fn from(told: Told) -> Answer {
         Answer {
             layer: layer_number(told.layer),
             number: u32::from(told.number),
             place: told.place as u64,
+        }
+    }
+}
+
+// What a call answers that accepts.
+const ACCEPTED: Answer = Answer {
+    layer: 0,
+    number: 0,
+    place: 0,
+};
+
+impl From<Result<(), PlanFault>> for Answer {
+    ghost from_gives = { λ told r. r ≡ looked told };
+
+    fn from(told: Result<(), PlanFault>) -> Answer {
+        match told {
+            Ok(()) => ACCEPTED,
+            Err(fault) => Answer::from(Told::from(fault)),
+        }
+    }
+}
+
+impl From<Result<(), BoxFault>> for Answer {
+    ghost from_gives = { λ told r. r ≡ judged told };
+
+    fn from(told: Result<(), BoxFault>) -> Answer {
+        match told {
+            Ok(()) => ACCEPTED,
+            Err(fault) => Answer::from(Told::from(fault)),
+        }
+    }
+}
+
+impl From<Result<u16, BoxFault>> for Counted {
+    ghost from_gives = { λ told r. r ≡ counted told };
+
+    fn from(told: Result<u16, BoxFault>) -> Counted {
+        match told {
+            Ok(count) => Counted {
+                answer: ACCEPTED,
+                count: u64::from(count),
+            },
+            Err(fault) => Counted {
+                answer: Answer::from(Told::from(fault)),
+                count: 0,
+            },
         }
     }
 }

@@ -20,10 +20,7 @@ pub extern "C" fn tablet_look(file: &[u8]) -> Answer
     ensures first { result ≡ looked (look file.now) }
     ensures accepted { AcceptsExactly file.now result }
 {
-    match look_over(file) {
-        Ok(()) => Answer::accepted(),
-        Err(fault) => Answer::refused(fault.tell()),
-    }
+    Answer::from(look_over(file))
 }
 
 // Accepts the row exactly where it is a route of the plan in the file. A file that the look refuses has no components.
@@ -33,10 +30,7 @@ pub extern "C" fn tablet_judge(file: &[u8], row: &[u8]) -> Answer
     ensures routes { is_row row.now ≡ true → Route (layout_of (taken file.now)) (entries_of row.now) → result ≡ accepted }
 {
     let plan = FiledPlan::take(file);
-    match judge(&plan, row) {
-        Ok(()) => Answer::accepted(),
-        Err(fault) => Answer::refused(fault.tell()),
-    }
+    Answer::from(judge(&plan, row))
 }
 
 // How many components both rows have, each counted once.
@@ -44,14 +38,5 @@ pub extern "C" fn tablet_judge(file: &[u8], row: &[u8]) -> Answer
 pub extern "C" fn tablet_shared(a: &[u8], b: &[u8]) -> Counted
     ensures { result ≡ counted (told_shared a.now b.now) }
 {
-    match shared(a, b) {
-        Ok(count) => Counted {
-            answer: Answer::accepted(),
-            count: u64::from(count),
-        },
-        Err(fault) => Counted {
-            answer: Answer::refused(fault.tell()),
-            count: 0,
-        },
-    }
+    Counted::from(shared(a, b))
 }
