@@ -1,5 +1,5 @@
 -- When two ports of a sheet are connected, and what connecting and disconnecting make of a layout.
-use Rattle.std.specs.Prelude.{ℕ, Bool, true, false, cond, not, ◌&&◌, List, is_some, Some, None, Ok, Err, Option, Result, ◌==◌}
+use Rattle.std.specs.Prelude.{ℕ, Bool, true, false, cond, not, ◌&&◌, List, length, is_some, Some, None, Ok, Err, Option, Result, ◌==◌}
 use Rattle.fault.specs.declared.kinds.PlanFault.{PlanFault}
 use Rattle.fault.specs.declared.kinds.PlanFault.TheVariants.{NoSuchPart, NotOpposed, AlreadyConnected, BlankPort}
 use Rattle.plan.specs.declared.parts.Direction.{Direction}
@@ -38,6 +38,10 @@ layout_of rs n = record {
   section = (components_of rs n).section;
   far = far_in (components_of rs n) (named rs);
 }
+
+-- what all the records say
+abbrev pub drawn : List Component → Layout
+drawn rs = layout_of rs (length rs)
 
 abbrev pub is_blank : Layout → Port → Bool
 is_blank l p = not (is_some (l.far p))

@@ -38,6 +38,11 @@ told_switch s letter section =
 abbrev pub told_section : Sheet → Result ℕ PlanFault
 told_section s = cond (nat_lt s.sections 512) (Ok s.sections) (Err SheetFull)
 
+-- the lent space is the same space, and as long
+pub record SameSpace (before after : Sheet) : Type 0 where
+  pub held : after.records.ghost_name ≡ before.records.ghost_name
+  pub size : length after.records.now ≡ length before.records.now
+
 -- after an accepted call: the layout, and what every record holds
 
 pub record ComponentAdded (before after : Sheet) (k : Kind) (section : ℕ) : Type 0 where

@@ -39,6 +39,5 @@ returns c =
         count = refl;
         sections = refl;
       };
-      held = refl;
-      size = simp length-set;
+      space = record { held = refl; size = simp length-set };
     }
