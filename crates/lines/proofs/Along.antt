@@ -7,7 +7,7 @@ use Rattle.row.specs.Put.{put}
 use Rattle.row.specs.Row.{is_row, entries_of}
 use Rattle.row.proofs.Rows.{entry_at, entry_parts, length_entries, row_parts}
 use Rattle.lines.specs.Lines.{shown, stop, row_line}
-use Rattle.lines.proofs.Fronts.{text_next, byte_next}
+use Rattle.lines.proofs.Writing.{text_next, byte_next}
 use Rattle.lines.proofs.Shown.{length_shown}
 
 stop_at : (es : List ℕ) (i : ℕ) → stop (drop (i + 1) es) ≡ cond (ltb (i + 1) (length es)) 32 10

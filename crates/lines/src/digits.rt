@@ -7,28 +7,7 @@ pub(crate) fn digit_count(n: usize) -> usize
     ensures value { result ≡ length (decimal n) }
     ensures few { result ≤ 20 }
 {
-    let mut left = n;
-    let mut count = 1;
-    while left >= 10 {
-        left /= 10;
-        count += 1;
-    }
-    count
-}
-
-// Writes the number at the place and answers the place behind it.
-pub(crate) fn put_number(space: &mut [u8], at: usize, n: usize) -> usize
-    requires { at + length (decimal n) ≤ length space.old }
-    ensures next { result ≡ at + length (decimal n) }
-    ensures left { space.new ≡ put space.old at (decimal n) }
-{
-    if n < 10 {
-        space[at] = b'0' + n as u8;
-        return at + 1;
-    }
-    let last = put_number(space, at, n / 10);
-    space[last] = b'0' + (n % 10) as u8;
-    last + 1
+    if n < 10 { 1 } else { digit_count(n / 10) + 1 }
 }
 
 // How many digits a number below 1,000 has.

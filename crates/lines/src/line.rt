@@ -1,0 +1,52 @@
+ghost use Rattle.std.specs.Prelude.{◌≡◌, ◌+◌, ◌<◌, ◌≤◌, [], ◌∷◌, ◌++◌, length};
+ghost use Rattle.lines.specs.Decimal.{decimal};
+ghost use Rattle.lines.specs.Written.{Written};
+
+// A line in the making: what is written next goes to the place `at` of the space.
+#[derive(Drop)]
+pub(crate) struct Line<'a> {
+    pub(crate) space: &'a mut [u8],
+    pub(crate) at: usize,
+}
+
+impl Line<'_> {
+    pub(crate) fn byte(&mut self, b: u8)
+        requires { self.old.at < length self.old.space.now }
+        ensures { Written self.old self.new (b ∷ []) }
+    {
+        self.space[self.at] = b;
+        self.at += 1;
+    }
+
+    pub(crate) fn text(&mut self, text: &[u8])
+        requires { self.old.at + length text.now ≤ length self.old.space.now }
+        ensures { Written self.old self.new text.now }
+    {
+        let end = self.at + text.len();
+        let space = &mut *self.space;
+        space[self.at..end].copy_from_slice(text);
+        self.at = end;
+    }
+
+    pub(crate) fn number(&mut self, n: usize)
+        requires { self.old.at + length (decimal n) ≤ length self.old.space.now }
+        ensures { Written self.old self.new (decimal n) }
+    {
+        if n < 10 {
+            self.byte(b'0' + n as u8);
+        } else {
+            self.number(n / 10);
+            self.byte(b'0' + (n % 10) as u8);
+        }
+    }
+
+    // A text, a number, and the end of the line.
+    pub(crate) fn counted(&mut self, text: &[u8], n: usize)
+        requires { self.old.at + length (text.now ++ (decimal n ++ (10 ∷ []))) ≤ length self.old.space.now }
+        ensures { Written self.old self.new (text.now ++ (decimal n ++ (10 ∷ []))) }
+    {
+        self.text(text);
+        self.number(n);
+        self.byte(b'\n');
+    }
+}
