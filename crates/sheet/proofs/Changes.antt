@@ -2,11 +2,11 @@
 use Rattle.std.proofs.Common.{◌≡◌, ℕ, ◌<◌, ◌≤◌, Bool, true, false, cond, ◌≢◌, ◌⊎◌, List, length, is_some, Some, None, Ok, Option, sym, refl, ap, ◌∙◌, subst, inl, inr, ⊎_elim, arith}
 use Rattle.std.proofs.lemmas.Bool.{cases_Bool, cond-true, cond-false, both_ways}
 use Rattle.plan.specs.declared.parts.Port.{Port}
-use Rattle.plan.specs.Layout.{Layout, is_port, told, same_port, leads_to}
+use Rattle.plan.specs.Layout.{Layout, is_port, opposed, told, same_port, leads_to}
 use Rattle.plan.proofs.Ports.{ports_same, port_self, port_below, led}
 use Rattle.sheet.specs.declared.component.Component.{Component}
 use Rattle.sheet.specs.Records.{named, put_in, components_of}
-use Rattle.sheet.specs.Connections.{opposed, may_connect, far_in, layout_of, connected, disconnected}
+use Rattle.sheet.specs.Connections.{may_connect, far_in, layout_of, connected, disconnected}
 use Rattle.sheet.specs.Laws.{opposed_parts, may_parts, may_from, may_back, far_says, says_far, far_back}
 use Rattle.sheet.proofs.Puts.{ext, put_components, put_same, put_other, put_length}
 

@@ -4,8 +4,7 @@ use Rattle.fault.specs.declared.kinds.PlanFault.{PlanFault}
 use Rattle.fault.specs.declared.kinds.PlanFault.TheVariants.{File, SheetFull, WrongLetter, NoSuchPart, NotOpposed, NotNamedBack, AlreadyConnected, BlankPort, WrongSwitchCount}
 use Rattle.plan.specs.declared.parts.Kind.{Kind}
 use Rattle.plan.specs.declared.parts.Side.TheVariants.{West as WestSide, East as EastSide, Branch}
-use Rattle.plan.specs.Layout.{Layout, is_switch}
-use Rattle.sheet.specs.Records.{port_at}
+use Rattle.plan.specs.Layout.{Layout, is_switch, port as port_at}
 
 -- a component that is a switch has no blank port
 abbrev pub is_whole : Layout → ℕ → Bool

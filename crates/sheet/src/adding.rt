@@ -1,6 +1,7 @@
 ghost use Rattle.std.specs.Prelude.{◌≡◌, ◌+◌, true, MatchResult};
 ghost use Rattle.plan.specs.declared.parts.Kind.TheVariants.{Signal, Switch, Straight};
-ghost use Rattle.sheet.specs.Adding.{empty_layout, direction_at, told_direction};
+ghost use Rattle.plan.specs.Letters.{direction_at};
+ghost use Rattle.sheet.specs.Adding.{empty_layout};
 ghost use Rattle.sheet.specs.Records.{blank_component, section_stands};
 ghost use Rattle.sheet.specs.Sheets.{plan_of, has_room, told_room, told_straight, told_signal, told_switch, told_section, SameSpace, ComponentAdded, SectionAdded};
 
@@ -11,16 +12,6 @@ use plan::parts::{Direction, Kind};
 
 // At most so many components, and so many point sections.
 const MOST: u16 = 512;
-
-fn direction(letter: u8) -> Result<Direction, PlanFault>
-    ensures { result ≡ told_direction letter }
-{
-    match letter {
-        b'E' => Ok(Direction::East),
-        b'W' => Ok(Direction::West),
-        _ => Err(PlanFault::WrongLetter),
-    }
-}
 
 impl<'a> Sheet<'a> {
     // A sheet without components or point sections. It writes nothing yet.
@@ -68,7 +59,7 @@ impl<'a> Sheet<'a> {
         ensures space { SameSpace self.old self.new }
     {
         self.room()?;
-        let direction = direction(letter)?;
+        let direction = Direction::try_from(letter)?;
         Ok(self.add(Kind::Signal(direction), 0))
     }
 
@@ -78,7 +69,7 @@ impl<'a> Sheet<'a> {
         ensures space { SameSpace self.old self.new }
     {
         self.room()?;
-        let direction = direction(letter)?;
+        let direction = Direction::try_from(letter)?;
         if section >= self.sections {
             return Err(PlanFault::NoSuchPart(0));
         }

@@ -32,7 +32,7 @@ impl Component {
     pub(crate) fn belongs(self, section: u16) -> bool
         ensures { result ≡ belongs self.kind self.section section }
     {
-        matches!(self.kind, Kind::Switch(_)) && self.section == section
+        self.kind.is_switch() && self.section == section
     }
 
     pub(crate) fn named(self, side: Side) -> Option<Port>

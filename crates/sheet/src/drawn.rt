@@ -1,37 +1,14 @@
 // What the records of components say. The sheet and the closed sheet both ask here.
 
 ghost use Rattle.std.specs.Prelude.{◌≡◌, ◌&&◌, is_some, length, slice_get};
-ghost use Rattle.plan.specs.Layout.{has_side, side_faces, is_port, leads_to, told_kind, told_section, told_far};
-ghost use Rattle.sheet.specs.Connections.{opposed, may_connect, drawn};
+ghost use Rattle.plan.specs.Layout.{is_port, opposed, leads_to, told_kind, told_section, told_far, port as port_at};
+ghost use Rattle.sheet.specs.Connections.{may_connect, drawn};
 ghost use Rattle.sheet.specs.Look.{is_whole, SwitchTold};
-ghost use Rattle.sheet.specs.Records.{named as named_in, components_of, port_at};
+ghost use Rattle.sheet.specs.Records.{named as named_in, components_of};
 
 use crate::component::Component;
 use fault::kinds::PlanFault;
-use plan::parts::{Direction, Kind, Port, Side};
-
-fn has_side(kind: Kind, side: Side) -> bool
-    ensures { result ≡ has_side kind side }
-{
-    match (side, kind) {
-        (Side::Branch, Kind::Switch(_)) => true,
-        (Side::Branch, _) => false,
-        _ => true,
-    }
-}
-
-fn faces(kind: Kind, side: Side) -> Direction
-    ensures { result ≡ side_faces kind side }
-{
-    match side {
-        Side::West => Direction::West,
-        Side::East => Direction::East,
-        Side::Branch => match kind {
-            Kind::Signal(direction) | Kind::Switch(direction) => direction,
-            Kind::Straight => Direction::East,
-        },
-    }
-}
+use plan::parts::{Kind, Port, Side};
 
 // The components of a sheet, by number.
 #[derive(Clone, Copy)]
@@ -58,14 +35,14 @@ impl Drawn<'_> {
         ensures { result ≡ is_port (drawn self.now.records.now) port }
     {
         self.record(port.component)
-            .is_some_and(|record| has_side(record.kind, port.side))
+            .is_some_and(|record| record.kind.has_side(port.side))
     }
 
     pub(crate) fn is_opposed(&self, port: Port, other: Port) -> bool
         ensures { result ≡ opposed (drawn self.now.records.now) port other }
     {
-        let here = faces(self.kind_of(port.component), port.side);
-        let there = faces(self.kind_of(other.component), other.side);
+        let here = self.kind_of(port.component).faces(port.side);
+        let there = self.kind_of(other.component).faces(other.side);
         here != there && port.component != other.component
     }
 
@@ -111,7 +88,7 @@ impl Drawn<'_> {
         ensures { result ≡ told_section (drawn self.now.records.now) component }
     {
         self.record(component)
-            .filter(|record| matches!(record.kind, Kind::Switch(_)))
+            .filter(|record| record.kind.is_switch())
             .map(|record| record.section)
             .ok_or(PlanFault::NoSuchPart(0))
     }
@@ -129,21 +106,17 @@ impl Drawn<'_> {
     fn is_connected(&self, component: u16, side: Side) -> bool
         ensures { result ≡ is_some ((drawn self.now.records.now).far (port_at component side)) }
     {
-        self.far_of(Port { component, side }).is_some()
+        self.far_of(side.of(component)).is_some()
     }
 
     // Whether a component that is a switch has no blank port.
     pub(crate) fn is_whole(&self, component: u16) -> bool
         ensures { result ≡ is_whole (drawn self.now.records.now) component }
     {
-        match self.kind_of(component) {
-            Kind::Switch(_) => {
-                self.is_connected(component, Side::West)
-                    && self.is_connected(component, Side::East)
-                    && self.is_connected(component, Side::Branch)
-            }
-            _ => true,
-        }
+        !self.kind_of(component).is_switch()
+            || (self.is_connected(component, Side::West)
+                && self.is_connected(component, Side::East)
+                && self.is_connected(component, Side::Branch))
     }
 
     // Whether a point section has a switch.

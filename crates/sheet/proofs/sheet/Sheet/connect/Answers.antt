@@ -1,6 +1,7 @@
 use Rattle.std.proofs.Common.{Some, sym, ap, ◌∙◌, rules}
 use Rattle.sheet.specs.Records.{put_in}
-use Rattle.sheet.specs.Connections.{opposed, layout_of}
+use Rattle.plan.specs.Layout.{opposed}
+use Rattle.sheet.specs.Connections.{layout_of}
 use Rattle.sheet.proofs.Changes.{is_none, told_ok, connected_layout}
 use Rattle.sheet.proofs.sheet.Sheet.connect.Goals as goal
 
