@@ -1,4 +1,4 @@
-mod Along
 mod Decimals
-mod Writing
+mod Pairs
 mod Shown
+mod Writing
