@@ -1,11 +1,11 @@
 -- The line of a row, by the pairs of its bytes.
-use Rattle.std.proofs.Common.{◌≡◌, ℕ, ◌+◌, ◌*◌, ◌-◌, ◌/◌, ◌<◌, ◌≤◌, true, List, [], ◌∷◌, ◌++◌, length, get_or, take, drop, map, sym, refl, ap, ◌∙◌, arith, length-append, append_assoc}
-use Rattle.std.proofs.lemmas.List.{take_more, take-append-drop}
+use Rattle.std.proofs.Common.{◌≡◌, ℕ, ◌+◌, ◌*◌, ◌-◌, ◌/◌, ◌<◌, ◌≤◌, true, List, [], ◌∷◌, ◌++◌, length, get_or, take, drop, map, sym, refl, ap, ◌∙◌, subst, arith, length-append, append_assoc}
+use Rattle.std.proofs.lemmas.List.{get_or-append-add, get_or_append_left, get_or-map, length-map, take_more, take-append-drop}
 use Rattle.std.specs.List.{sum_by}
 use Rattle.std.proofs.lemmas.List.Sums.{sum_by-cons}
 use Rattle.numbers.specs.Stored.{number}
 use Rattle.row.specs.Row.{is_row, entries_of, numbers_from}
-use Rattle.row.proofs.Rows.{row_parts}
+use Rattle.row.proofs.Rows.{entry_at, entry_parts, length_entries, row_parts}
 use Rattle.lines.specs.Lines.{shown, stop, row_line}
 
 -- entries with a space behind each
@@ -48,11 +48,32 @@ entries_pairs s ps r all =
     let k : number s 0 ≡ (length s - 2) / 2 = omega arith in
     ap (numbers_from s 2) k ∙ sym all
 
-pub row_pairs : (s : List ℕ) (ps front : List (List ℕ)) (last : List ℕ) → is_row s ≡ true →
-    map (λ p. number p 0) ps ≡ numbers_from s 2 ((length s - 2) / 2) → ps ≡ front ++ last ∷ [] →
-    row_line (entries_of s) ≡ spaced front ++ (shown (number last 0) ++ 10 ∷ [])
-row_pairs s ps front last r all split =
-    ap row_line (entries_pairs s ps r all ∙ ap (map (λ p. number p 0)) split) ∙ line_pairs front last
+pair_small : (s : List ℕ) (ps : List (List ℕ)) → is_row s ≡ true →
+    map (λ p. number p 0) ps ≡ numbers_from s 2 ((length s - 2) / 2) → (i : ℕ) → i < length ps → number (get_or ps i []) 0 < 2048
+pair_small s ps r all i h =
+    let e = entries_pairs s ps r all in
+    let n : length (entries_of s) ≡ length ps = ap length e ∙ simp length-map in
+    let k = length_entries s in
+    let here = sym (get_or-map (λ p. number p 0) ps i [] 0 h) ∙ sym (ap (λ es. get_or es i 0) e) ∙ entry_at s i (omega arith) in
+    let small : number s (2 + 2 * i) < 2048 = (entry_parts _ ((row_parts s r).3 i (omega arith))).0 in
+    omega arith
+
+module _ (s : List ℕ) (ps front : List (List ℕ)) (last : List ℕ) (r : is_row s ≡ true)
+    (all : map (λ p. number p 0) ps ≡ numbers_from s 2 ((length s - 2) / 2)) (split : ps ≡ front ++ last ∷ []) where
+  pub front_small : (i : ℕ) → i < length front → number (get_or front i []) 0 < 2048
+  front_small i h =
+      let n = ap length split ∙ length-append front (last ∷ []) in
+      let e : get_or ps i [] ≡ get_or front i [] = ap (λ x. get_or x i []) split ∙ get_or_append_left front (last ∷ []) [] i h in
+      subst (λ (p : List ℕ). number p 0 < 2048) e (pair_small s ps r all i (omega arith))
+
+  pub last_small : number last 0 < 2048
+  last_small =
+      let n = ap length split ∙ length-append front (last ∷ []) in
+      let e : get_or ps (length front + 0) [] ≡ last = ap (λ x. get_or x (length front + 0) []) split ∙ get_or-append-add front (last ∷ []) 0 [] in
+      subst (λ (p : List ℕ). number p 0 < 2048) e (pair_small s ps r all (length front + 0) (omega arith))
+
+  pub row_pairs : row_line (entries_of s) ≡ spaced front ++ (shown (number last 0) ++ 10 ∷ [])
+  row_pairs = ap row_line (entries_pairs s ps r all ∙ ap (map (λ p. number p 0)) split) ∙ line_pairs front last
 
 -- how long the line of some pairs is
 pub length_pairs : (ps : List (List ℕ)) → length (row_line (map (λ p. number p 0) ps)) ≡ sum_by (λ p. length (shown (number p 0)) + 1) ps

@@ -1,5 +1,5 @@
 -- An entry in print, and the line of entries.
-use Rattle.std.proofs.Common.{◌≡◌, ℕ, suc, ◌+◌, ◌*◌, ◌/◌, ◌<◌, ◌≤◌, true, List, [], ◌∷◌, ◌++◌, length, is_some, Some, None, Option, get_or, drop, codes, sym, refl, ap, ◌∙◌, suc-le-suc, arith, length-append}
+use Rattle.std.proofs.Common.{◌≡◌, ℕ, suc, ◌+◌, ◌*◌, ◌/◌, ◌<◌, ◌≤◌, true, List, [], ◌∷◌, ◌++◌, length, is_some, Some, None, Option, get_or, refl, ap, suc-le-suc, arith, length-append}
 use mir.Val.{bool_byte}
 use Rattle.plan.specs.declared.parts.Position.{Position}
 use Rattle.plan.specs.declared.parts.Position.TheVariants.{Normal, Reverse}

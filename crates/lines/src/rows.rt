@@ -1,4 +1,4 @@
-ghost use Rattle.std.specs.Prelude.{◌≡◌, ◌+◌, ◌≤◌, [], ◌∷◌, ◌++◌, true, length};
+ghost use Rattle.std.specs.Prelude.{◌≡◌, ◌+◌, ◌<◌, ◌≤◌, [], ◌∷◌, ◌++◌, true, length};
 ghost use Rattle.numbers.specs.Stored.{number};
 ghost use Rattle.row.specs.Row.{is_row, entries_of};
 ghost use Rattle.lines.specs.Lines.{shown, row_line, row_line_told, row_line_left};
@@ -31,11 +31,13 @@ fn line_count(row: &[u8]) -> usize
 }
 
 // Writes an entry.
+#[inline]
 fn put_entry(line: &mut Line<'_>, e: u16)
-    requires { line.old.at + length (shown e) ≤ length line.old.space.now }
+    requires small { e < 2048 }
+    requires room { line.old.at + length (shown e) ≤ length line.old.space.now }
     ensures { Written line.old line.new (shown e) }
 {
-    line.number(usize::from(component(e)));
+    line.small(component(e));
     match lie(e) {
         Some(Position::Normal) => line.byte(b'N'),
         Some(Position::Reverse) => line.byte(b'R'),
@@ -44,8 +46,10 @@ fn put_entry(line: &mut Line<'_>, e: u16)
 }
 
 // Writes the entry that two bytes hold, and a byte behind it.
+#[inline]
 fn put_pair(line: &mut Line<'_>, pair: [u8; 2], stop: u8)
-    requires { line.old.at + length (shown (number pair 0) ++ stop ∷ []) ≤ length line.old.space.now }
+    requires small { number pair 0 < 2048 }
+    requires room { line.old.at + length (shown (number pair 0) ++ stop ∷ []) ≤ length line.old.space.now }
     ensures { Written line.old line.new (shown (number pair 0) ++ stop ∷ []) }
 {
     put_entry(line, u16::from_le_bytes(pair));

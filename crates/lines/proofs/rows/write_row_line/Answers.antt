@@ -1,6 +1,6 @@
 use Rattle.std.proofs.Common.{◌≡◌, ◌≤◌, length, Ok, sym, ap, ◌∙◌, arith, rules}
 use Rattle.std.proofs.lemmas.Bool.{cond-true}
-use Rattle.row.specs.Put.{put, text_left}
+use Rattle.row.specs.Put.{put}
 use Rattle.row.specs.Row.{entries_of}
 use Rattle.row.proofs.Puts.{long_enough}
 use Rattle.lines.specs.Lines.{row_line, row_line_left}
