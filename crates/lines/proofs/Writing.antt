@@ -1,13 +1,13 @@
 -- A line written piece by piece.
-use Rattle.std.proofs.Common.{◌≡◌, ℕ, ◌+◌, ◌<◌, ◌≤◌, List, [], ◌∷◌, ◌++◌, length, set, ap, ◌∙◌, arith, length-append}
+use Rattle.std.proofs.Common.{ℕ, List, ◌++◌, length, ap, ◌∙◌, arith, length-append}
 use Rattle.row.specs.Put.{put}
-use Rattle.row.proofs.Puts.{length_put, put_more, put_then}
+use Rattle.row.proofs.Puts.{length_put, put_more}
 use Rattle.lines.specs.declared.line.Line.{Line}
-use Rattle.lines.specs.Written.{Written}
+use Rattle.lines.specs.Written.{HasRoom, Written}
 
-module _ (a b : Line) (t u : List ℕ) (room : a.at + length (t ++ u) ≤ length a.space.now) (w : Written a b t) where
+module _ (a b : Line) (t u : List ℕ) (room : HasRoom a (t ++ u)) (w : Written a b t) where
   -- there is room for what comes next
-  pub room_left : b.at + length u ≤ length b.space.now
+  pub room_left : HasRoom b u
   room_left =
       let l = length-append t u in
       let k = ap length w.left ∙ length_put a.space.now a.at t (omega arith) in
@@ -27,11 +27,3 @@ module _ (a b : Line) (t u : List ℕ) (room : a.at + length (t ++ u) ≤ length
         next = omega arith;
         held = v.held ∙ w.held;
       }
-
-pub text_next : (s t u : List ℕ) (p : ℕ) → p ≡ length t → p ≤ length s → put (put s 0 t) p u ≡ put s 0 (t ++ u)
-text_next s t u p e h =
-    let q : p ≡ 0 + length t = omega arith in ap (λ k. put (put s 0 t) k u) q ∙ put_more s 0 t u (omega arith)
-
-pub byte_next : (s t : List ℕ) (p b : ℕ) → p ≡ length t → p < length s → set (put s 0 t) p b ≡ put s 0 (t ++ b ∷ [])
-byte_next s t p b e h =
-    let q : p ≡ 0 + length t = omega arith in ap (λ k. set (put s 0 t) k b) q ∙ put_then s 0 t b (omega arith)

@@ -1,7 +1,7 @@
 ghost use Rattle.std.specs.Prelude.{◌≡◌, ◌+◌, ◌≤◌, length};
 ghost use Rattle.row.specs.Put.{text_told, text_left};
 ghost use Rattle.lines.specs.Closing.{closing_line};
-ghost use Rattle.lines.specs.Written.{Written};
+ghost use Rattle.lines.specs.Written.{HasRoom, Written};
 
 use crate::digits::digit_count;
 use crate::line::Line;
@@ -32,7 +32,7 @@ impl Closing {
 
     // Writes the line where there is room for it.
     fn put(self, line: &mut Line<'_>)
-        requires { line.old.at + length (closing_line self) ≤ length line.old.space.now }
+        requires { HasRoom line.old (closing_line self) }
         ensures { Written line.old line.new (closing_line self) }
     {
         match self {

@@ -1,6 +1,6 @@
-ghost use Rattle.std.specs.Prelude.{◌≡◌, ◌+◌, ◌<◌, ◌≤◌, [], ◌∷◌, ◌++◌, length};
+ghost use Rattle.std.specs.Prelude.{◌<◌, [], ◌∷◌, ◌++◌};
 ghost use Rattle.lines.specs.Decimal.{decimal};
-ghost use Rattle.lines.specs.Written.{Written};
+ghost use Rattle.lines.specs.Written.{HasRoom, Written};
 
 // A line in the making: what is written next goes to the place `at` of the space.
 #[derive(Drop)]
@@ -12,15 +12,16 @@ pub(crate) struct Line<'a> {
 impl Line<'_> {
     #[inline]
     pub(crate) fn byte(&mut self, b: u8)
-        requires { self.old.at < length self.old.space.now }
+        requires { HasRoom self.old (b ∷ []) }
         ensures { Written self.old self.new (b ∷ []) }
     {
         self.space[self.at] = b;
         self.at += 1;
     }
 
+    #[inline]
     pub(crate) fn text(&mut self, text: &[u8])
-        requires { self.old.at + length text.now ≤ length self.old.space.now }
+        requires { HasRoom self.old text.now }
         ensures { Written self.old self.new text.now }
     {
         let end = self.at + text.len();
@@ -30,7 +31,7 @@ impl Line<'_> {
     }
 
     pub(crate) fn number(&mut self, n: usize)
-        requires { self.old.at + length (decimal n) ≤ length self.old.space.now }
+        requires { HasRoom self.old (decimal n) }
         ensures { Written self.old self.new (decimal n) }
     {
         if n < 10 {
@@ -46,24 +47,22 @@ impl Line<'_> {
     #[inline]
     pub(crate) fn small(&mut self, n: u16)
         requires below { n < 1000 }
-        requires room { self.old.at + length (decimal n) ≤ length self.old.space.now }
+        requires room { HasRoom self.old (decimal n) }
         ensures { Written self.old self.new (decimal n) }
     {
+        let last = b'0' + (n % 10) as u8;
         if n < 10 {
-            self.byte(b'0' + n as u8);
+            self.byte(last);
         } else if n < 100 {
-            self.byte(b'0' + (n / 10) as u8);
-            self.byte(b'0' + (n % 10) as u8);
+            self.text(&[b'0' + (n / 10) as u8, last]);
         } else {
-            self.byte(b'0' + (n / 100) as u8);
-            self.byte(b'0' + (n / 10 % 10) as u8);
-            self.byte(b'0' + (n % 10) as u8);
+            self.text(&[b'0' + (n / 100) as u8, b'0' + (n / 10 % 10) as u8, last]);
         }
     }
 
     // A text, a number, and the end of the line.
     pub(crate) fn counted(&mut self, text: &[u8], n: usize)
-        requires { self.old.at + length (text.now ++ (decimal n ++ (10 ∷ []))) ≤ length self.old.space.now }
+        requires { HasRoom self.old (text.now ++ (decimal n ++ (10 ∷ []))) }
         ensures { Written self.old self.new (text.now ++ (decimal n ++ (10 ∷ []))) }
     {
         self.text(text);

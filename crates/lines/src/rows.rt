@@ -2,7 +2,7 @@ ghost use Rattle.std.specs.Prelude.{◌≡◌, ◌+◌, ◌<◌, ◌≤◌, [], 
 ghost use Rattle.numbers.specs.Stored.{number};
 ghost use Rattle.row.specs.Row.{is_row, entries_of};
 ghost use Rattle.lines.specs.Lines.{shown, row_line, row_line_told, row_line_left};
-ghost use Rattle.lines.specs.Written.{Written};
+ghost use Rattle.lines.specs.Written.{HasRoom, Written};
 
 use crate::digits::digit_count;
 use crate::line::Line;
@@ -34,7 +34,7 @@ fn line_count(row: &[u8]) -> usize
 #[inline]
 fn put_entry(line: &mut Line<'_>, e: u16)
     requires small { e < 2048 }
-    requires room { line.old.at + length (shown e) ≤ length line.old.space.now }
+    requires room { HasRoom line.old (shown e) }
     ensures { Written line.old line.new (shown e) }
 {
     line.small(component(e));
@@ -49,7 +49,7 @@ fn put_entry(line: &mut Line<'_>, e: u16)
 #[inline]
 fn put_pair(line: &mut Line<'_>, pair: [u8; 2], stop: u8)
     requires small { number pair 0 < 2048 }
-    requires room { line.old.at + length (shown (number pair 0) ++ stop ∷ []) ≤ length line.old.space.now }
+    requires room { HasRoom line.old (shown (number pair 0) ++ stop ∷ []) }
     ensures { Written line.old line.new (shown (number pair 0) ++ stop ∷ []) }
 {
     put_entry(line, u16::from_le_bytes(pair));
@@ -59,7 +59,7 @@ fn put_pair(line: &mut Line<'_>, pair: [u8; 2], stop: u8)
 // Writes the line of a row where there is room for it: a space behind each entry but the last, and the line's end.
 fn put_row(line: &mut Line<'_>, row: &[u8])
     requires row { is_row row.now ≡ true }
-    requires room { line.old.at + length (row_line (entries_of row.now)) ≤ length line.old.space.now }
+    requires room { HasRoom line.old (row_line (entries_of row.now)) }
     ensures { Written line.old line.new (row_line (entries_of row.now)) }
 {
     let Some((last, front)) = pairs(row).split_last() else {

@@ -17,8 +17,7 @@ pub byte-requires-else-n-lt10 : goal.byte-requires-else-n-lt10
 byte-requires-else-n-lt10 t c =
     let n = c.args.n in
     let e = ap length (decimal_step n (omega arith)) in
-    let r = room_left c.args.self.now c.number.new.self (decimal (n / 10)) (digit (n % 10) ∷ []) (omega arith) c.number.ensures in
-    omega arith
+    room_left c.args.self.now c.number.new.self (decimal (n / 10)) (digit (n % 10) ∷ []) (omega arith) c.number.ensures
 
 pub returns-else-n-lt10 : goal.returns-else-n-lt10
 returns-else-n-lt10 t c =

@@ -14,8 +14,7 @@ pub byte-requires : goal.byte-requires
 byte-requires c =
     let d = decimal c.args.n in
     let r = room_left c.args.self.now c.text.new.self c.args.text.now (d ++ 10 ∷ []) c.requires c.text.ensures in
-    let q = room_left c.text.new.self c.number.new.self d (10 ∷ []) r c.number.ensures in
-    omega arith
+    room_left c.text.new.self c.number.new.self d (10 ∷ []) r c.number.ensures
 
 pub returns : goal.returns
 returns c =
