@@ -36,15 +36,12 @@ decimal_step n h =
 pub length_step : (n : ℕ) → 10 ≤ n → length (decimal n) ≡ length (decimal (n / 10)) + 1
 length_step n h = ap length (decimal_step n h) ∙ length-append (decimal (n / 10)) (digit (n % 10) ∷ [])
 
--- two and three digits
-pub decimal_two : (n : ℕ) → 10 ≤ n → n < 100 → decimal n ≡ digit (n / 10 % 10) ∷ (digit (n % 10) ∷ [])
-decimal_two n low high =
-    let e : n / 10 ≡ n / 10 % 10 = omega arith in
-    decimal_step n low ∙ ap (λ ds. ds ++ (digit (n % 10) ∷ [])) (decimal_digit (n / 10) (omega arith) ∙ ap (λ d. digit d ∷ []) e)
+pub decimal_two : (n : ℕ) → 10 ≤ n → n < 100 → decimal n ≡ digit (n / 10) ∷ (digit (n % 10) ∷ [])
+decimal_two n low high = decimal_step n low ∙ ap (λ ds. ds ++ (digit (n % 10) ∷ [])) (decimal_digit (n / 10) (omega arith))
 
 pub decimal_three : (n : ℕ) → 100 ≤ n → n < 1000 → decimal n ≡ digit (n / 100) ∷ (digit (n / 10 % 10) ∷ (digit (n % 10) ∷ []))
 decimal_three n low high =
-    let e : n / 10 / 10 % 10 ≡ n / 100 = omega arith in
+    let e : n / 10 / 10 ≡ n / 100 = omega arith in
     decimal_step n (omega arith)
     ∙ ap (λ ds. ds ++ (digit (n % 10) ∷ [])) (decimal_two (n / 10) (omega arith) (omega arith) ∙ ap (λ d. digit d ∷ (digit (n / 10 % 10) ∷ [])) e)
 
@@ -68,12 +65,5 @@ unfolding decimal
 length_decimal n h = few (suc n) 19 n (omega arith)
 
 pub length_small : (n : ℕ) → n < 1000 → length (decimal n) ≤ 3
-length_small n h =
-    ⊎_elim
-    (λ (a : n < 10). omega (arith, ap length (decimal_digit n a)))
-    (λ (a : 10 ≤ n).
-    ⊎_elim
-    (λ (b : n < 100). omega (arith, ap length (decimal_two n a b)))
-    (λ (b : 100 ≤ n). omega (arith, ap length (decimal_three n b h)))
-    (cases_lt n 100))
-    (cases_lt n 10)
+unfolding decimal
+length_small n h = few (suc n) 2 n (omega arith)

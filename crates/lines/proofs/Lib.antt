@@ -1,4 +1,4 @@
-mod Along
 mod Decimals
-mod Fronts
+mod Pairs
 mod Shown
+mod Writing

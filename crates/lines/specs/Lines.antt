@@ -1,18 +1,23 @@
 -- The printed lines.
-use Rattle.std.specs.Prelude.{ℕ, ◌/◌, ◌%◌, cond, List, [], ◌∷◌, ◌++◌, Err, codes, Result, ◌==◌}
+use Rattle.std.specs.Prelude.{ℕ, cond, List, [], ◌∷◌, ◌++◌, Some, None, Err, codes, Option, Result}
 use Rattle.fault.specs.declared.kinds.BoxFault.{BoxFault}
 use Rattle.fault.specs.declared.kinds.BoxFault.TheVariants.{NotARow}
+use Rattle.plan.specs.declared.parts.Position.{Position}
+use Rattle.plan.specs.declared.parts.Position.TheVariants.{Normal, Reverse}
+use Rattle.row.specs.Lies.{component_of, lie_of}
 use Rattle.row.specs.Put.{text_told, text_left}
 use Rattle.row.specs.Row.{is_row, entries_of}
 use Rattle.lines.specs.Decimal.{decimal}
 
--- how the switch of an entry lies: normal or reverse
-abbrev pub lie : ℕ → List ℕ
-lie e = cond (e % 4 == 1) (codes "N") (cond (e % 4 == 2) (codes "R") [])
+-- the letter behind a switch, by how it lies
+abbrev pub letter : Option Position → List ℕ
+letter None = []
+letter (Some Normal) = codes "N"
+letter (Some Reverse) = codes "R"
 
 -- an entry's component, and how it lies
 unfoldable pub shown : ℕ → List ℕ
-shown e = decimal (e / 4) ++ lie e
+shown e = decimal (component_of e) ++ letter (lie_of e)
 
 -- what stands behind an entry: a space, or behind the last the end of the line
 abbrev pub stop : List ℕ → ℕ

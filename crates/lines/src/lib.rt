@@ -1,6 +1,7 @@
 // The printed lines: a row's, and those that tell of a count or a refusal.
 #![tactic(auto)]
 
-pub mod counts;
+pub mod closing;
 mod digits;
+mod line;
 pub mod rows;

@@ -1,58 +1,22 @@
-ghost use Rattle.std.specs.Prelude.{◌≡◌, ◌+◌, ◌*◌, ◌<◌, ◌≤◌, true, length, if◌then◌else◌, nat_lt};
+ghost use Rattle.std.specs.Prelude.{◌≡◌, ◌+◌, ◌<◌, ◌≤◌, [], ◌∷◌, ◌++◌, true, length};
 ghost use Rattle.numbers.specs.Stored.{number};
-ghost use Rattle.row.specs.Put.{put};
 ghost use Rattle.row.specs.Row.{is_row, entries_of};
 ghost use Rattle.lines.specs.Lines.{shown, row_line, row_line_told, row_line_left};
+ghost use Rattle.lines.specs.Written.{HasRoom, Written};
 
-use crate::digits::{put_small, small_count};
+use crate::digits::digit_count;
+use crate::line::Line;
 use fault::kinds::BoxFault;
-use row::shape::{entry_count, is_row};
-
-// The entry `i` of a row that has it.
-fn known_entry(row: &[u8], i: usize) -> u16
-    requires { 3 + 2 * i < length row.now }
-    ensures { result ≡ number row.now (2 + 2 * i) }
-{
-    u16::from(row[2 + 2 * i]) + 256 * u16::from(row[3 + 2 * i])
-}
+use plan::parts::Position;
+use row::entry::{component, lie};
+use row::shape::{entry_count, is_row, pairs};
 
 // How long an entry is in print.
 fn shown_count(e: u16) -> usize
-    requires { e < 2048 }
     ensures value { result ≡ length (shown e) }
-    ensures few { result ≤ 4 }
+    ensures few { result ≤ 21 }
 {
-    let digits = small_count(e / 4);
-    if e % 4 == 1 || e % 4 == 2 {
-        return digits + 1;
-    }
-    digits
-}
-
-// Writes the entry at the place and answers the place behind it.
-fn put_entry(space: &mut [u8], at: usize, e: u16) -> usize
-    requires { (e < 2048) × (at + length (shown e) ≤ length space.old) }
-    ensures next { result ≡ at + length (shown e) }
-    ensures left { space.new ≡ put space.old at (shown e) }
-{
-    let end = put_small(space, at, e / 4);
-    if e % 4 == 1 {
-        space[end] = b'N';
-        return end + 1;
-    }
-    if e % 4 == 2 {
-        space[end] = b'R';
-        return end + 1;
-    }
-    end
-}
-
-// What stands behind the entry `i` of so many: a space, or the end of the line.
-fn stop(i: usize, count: usize) -> u8
-    requires { i < count }
-    ensures { result ≡ (if nat_lt (i + 1) count then 32 else 10) }
-{
-    if i + 1 < count { b' ' } else { b'\n' }
+    digit_count(usize::from(component(e))) + usize::from(lie(e).is_some())
 }
 
 // How long the line of a row is.
@@ -60,27 +24,51 @@ fn line_count(row: &[u8]) -> usize
     requires { is_row row.now ≡ true }
     ensures { result ≡ length (row_line (entries_of row.now)) }
 {
-    let mut size = 0;
-    for i in 0..entry_count(row) {
-        size += shown_count(known_entry(row, i)) + 1;
-    }
-    size
+    pairs(row)
+        .iter()
+        .map(|pair| shown_count(u16::from_le_bytes(*pair)) + 1)
+        .sum()
 }
 
-// Writes the line of a row at the front of a space that has room for it and answers how long it is.
-fn put_line(row: &[u8], space: &mut [u8]) -> usize
-    requires { (is_row row.now ≡ true) × (length (row_line (entries_of row.now)) ≤ length space.old) }
-    ensures length { result ≡ length (row_line (entries_of row.now)) }
-    ensures left { space.new ≡ put space.old 0 (row_line (entries_of row.now)) }
+// Writes an entry.
+#[inline]
+fn put_entry(line: &mut Line<'_>, e: u16)
+    requires small { e < 2048 }
+    requires room { HasRoom line.old (shown e) }
+    ensures { Written line.old line.new (shown e) }
 {
-    let count = entry_count(row);
-    let mut at = 0;
-    for i in 0..count {
-        let end = put_entry(space, at, known_entry(row, i));
-        space[end] = stop(i, count);
-        at = end + 1;
+    line.small(component(e));
+    match lie(e) {
+        Some(Position::Normal) => line.byte(b'N'),
+        Some(Position::Reverse) => line.byte(b'R'),
+        None => {}
     }
-    at
+}
+
+// Writes the entry that two bytes hold, and a byte behind it.
+#[inline]
+fn put_pair(line: &mut Line<'_>, pair: [u8; 2], stop: u8)
+    requires small { number pair 0 < 2048 }
+    requires room { HasRoom line.old (shown (number pair 0) ++ stop ∷ []) }
+    ensures { Written line.old line.new (shown (number pair 0) ++ stop ∷ []) }
+{
+    put_entry(line, u16::from_le_bytes(pair));
+    line.byte(stop);
+}
+
+// Writes the line of a row where there is room for it: a space behind each entry but the last, and the line's end.
+fn put_row(line: &mut Line<'_>, row: &[u8])
+    requires row { is_row row.now ≡ true }
+    requires room { HasRoom line.old (row_line (entries_of row.now)) }
+    ensures { Written line.old line.new (row_line (entries_of row.now)) }
+{
+    let Some((last, front)) = pairs(row).split_last() else {
+        return;
+    };
+    for pair in front {
+        put_pair(line, *pair, b' ');
+    }
+    put_pair(line, *last, b'\n');
 }
 
 // Writes the line of a row at the front of the space and answers how long it is.
@@ -96,5 +84,7 @@ pub fn write_row_line(row: &[u8], space: &mut [u8]) -> Result<usize, BoxFault>
     if space.len() < 5 * entry_count(row) && space.len() < line_count(row) {
         return Err(BoxFault::ShortSpace);
     }
-    Ok(put_line(row, space))
+    let mut line = Line { space, at: 0 };
+    put_row(&mut line, row);
+    Ok(line.at)
 }

@@ -1,12 +1,12 @@
 -- What becomes of the far ports when names change, and of the layout.
-use Rattle.std.proofs.Common.{◌≡◌, ℕ, ◌<◌, ◌≤◌, true, false, cond, ◌≢◌, ◌⊎◌, List, length, is_some, Some, None, Option, sym, refl, ap, ◌∙◌, subst, inl, inr, ⊎_elim, arith}
+use Rattle.std.proofs.Common.{◌≡◌, ℕ, ◌<◌, ◌≤◌, Bool, true, false, cond, ◌≢◌, ◌⊎◌, List, length, is_some, Some, None, Ok, Option, sym, refl, ap, ◌∙◌, subst, inl, inr, ⊎_elim, arith}
 use Rattle.std.proofs.lemmas.Bool.{cases_Bool, cond-true, cond-false, both_ways}
 use Rattle.plan.specs.declared.parts.Port.{Port}
-use Rattle.plan.specs.Layout.{Layout, is_port, same_port, leads_to}
+use Rattle.plan.specs.Layout.{Layout, is_port, opposed, told, same_port, leads_to}
 use Rattle.plan.proofs.Ports.{ports_same, port_self, port_below, led}
 use Rattle.sheet.specs.declared.component.Component.{Component}
 use Rattle.sheet.specs.Records.{named, put_in, components_of}
-use Rattle.sheet.specs.Connections.{opposed, may_connect, far_in, layout_of, connected, disconnected}
+use Rattle.sheet.specs.Connections.{may_connect, far_in, layout_of, connected, disconnected}
 use Rattle.sheet.specs.Laws.{opposed_parts, may_parts, may_from, may_back, far_says, says_far, far_back}
 use Rattle.sheet.proofs.Puts.{ext, put_components, put_same, put_other, put_length}
 
@@ -37,6 +37,11 @@ option_ext : (o g : Option Port) → ((q : Port) → o ≡ Some q → g ≡ Some
 option_ext None None to from = refl
 option_ext None (Some q) to from = from q refl
 option_ext (Some q) g to from = sym (to q refl)
+
+-- what is told of a port says that it exists
+pub told_ok : {T : Type 0} (exists : Bool) (x y : T) → told exists x ≡ Ok y → (exists ≡ true) × (x ≡ y)
+told_ok true x y h = (refl, cc)
+told_ok false x y h = (cc, cc)
 
 module _ (l : Layout) (names : Port → Option Port) (p : Port) where
   pub far_none : ((q : Port) → names p ≡ Some q → may_connect l p q ≡ true → ⊥) → far_in l names p ≡ None
@@ -104,7 +109,7 @@ module _ (l : Layout) (nm nm' : Port → Option Port) (a b : Port) where
           says_far l nm' p f (rest p q r ∙ s.0) (rest f fa fb ∙ s.1) s.2)
 
 -- a layout with other components and far ports
-drawn_eq : (l l' : Layout) (f f' : Port → Option Port) → l ≡ l' → f ≡ f' → ◌≡◌ {A = Layout} (record { count = l.count; kind = l.kind; section = l.section; far = f }) (record { count = l'.count; kind = l'.kind; section = l'.section; far = f' })
+pub drawn_eq : (l l' : Layout) (f f' : Port → Option Port) → l ≡ l' → f ≡ f' → ◌≡◌ {A = Layout} (record { count = l.count; kind = l.kind; section = l.section; far = f }) (record { count = l'.count; kind = l'.kind; section = l'.section; far = f' })
 drawn_eq l l' f f' p q = λ i. record { count = (p i).count; kind = (p i).kind; section = (p i).section; far = q i }
 
 module _ (rs : List Component) (n : ℕ) (fit : n ≤ length rs) (a b : Port) where

@@ -6,11 +6,11 @@ use Rattle.plan.specs.declared.parts.Kind.{Kind}
 use Rattle.plan.specs.declared.parts.Kind.TheVariants.{Signal, Straight}
 use Rattle.plan.specs.declared.parts.Side.{Side}
 use Rattle.plan.specs.declared.parts.Port.{Port}
-use Rattle.plan.specs.Layout.{is_port, has_side, side_faces}
+use Rattle.plan.specs.Layout.{is_port, has_side, side_faces, same_direction, port as port_at}
 use Rattle.plan.proofs.Ports.{port_below}
 use Rattle.sheet.specs.declared.component.Component.{Component}
-use Rattle.sheet.specs.Records.{port_at, blank_component, at, named_at, named, kinds, components_of, section_stands}
-use Rattle.sheet.specs.Connections.{same_direction, may_connect, far_in, layout_of}
+use Rattle.sheet.specs.Records.{blank_component, at, named_at, named, kinds, components_of, section_stands}
+use Rattle.sheet.specs.Connections.{may_connect, far_in, layout_of}
 use Rattle.sheet.specs.Laws.{may_parts, far_says, says_far}
 use Rattle.sheet.specs.Adding.{empty_layout, with_component}
 use Rattle.sheet.proofs.Puts.{ext, blank_names}

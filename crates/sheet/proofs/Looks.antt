@@ -1,10 +1,10 @@
 -- The look over a sheet has one answer.
-use Rattle.std.proofs.Common.{◌≡◌, ℕ, ◌<◌, Ok, Err, refl, ap, ⊎_elim}
+use Rattle.std.proofs.Common.{◌≡◌, ℕ, ◌<◌, ◌≤◌, Bool, true, false, not, Some, None, Ok, Err, Option, MatchOption, refl, ap, ⊎_elim, arith}
 use Rattle.std.proofs.lemmas.Bool.{both_ways, cases_order}
 use Rattle.fault.specs.declared.kinds.PlanFault.{PlanFault}
 use Rattle.fault.specs.declared.kinds.PlanFault.TheVariants.{File, SheetFull, WrongLetter, NoSuchPart, NotOpposed, NotNamedBack, AlreadyConnected, BlankPort, WrongSwitchCount}
 use Rattle.plan.specs.Layout.{Layout}
-use Rattle.sheet.specs.Look.{Whole, FirstBlank, FirstEmpty, HasSwitch, NoSwitch, Looked, OneLook}
+use Rattle.sheet.specs.Look.{Whole, FirstBlank, FirstEmpty, HasSwitch, NoSwitch, SwitchTold, FirstBad, Looked, OneLook}
 
 never_both : (l : Layout) (s : ℕ) → NoSwitch l s → HasSwitch l s → ⊥
 never_both l s n h = both_ways _ (n h.0 h.1.0) h.1.1
@@ -12,6 +12,22 @@ never_both l s n h = both_ways _ (n h.0 h.1.0) h.1.1
 -- a place that all before it pass, and that fails itself, is one
 first_one : (c d : ℕ) → (c < d → ⊥) → (d < c → ⊥) → c ≡ d
 first_one c d p q = ⊎_elim (λ e. e) (⊎_elim (λ h. absurd (p h)) (λ h. absurd (q h))) (cases_order c d)
+
+-- what `find` says over a range from 0 on
+pub first_bad : (n : ℕ) (Good Bad : ℕ → Type 0) (r : Option ℕ) →
+    MatchOption r ((k : ℕ) → 0 ≤ k → k < n → Good k) (λ i. (0 ≤ i) × (i < n) × Bad i × ((k : ℕ) → 0 ≤ k → k < i → Good k)) →
+    FirstBad n Good Bad r
+first_bad n Good Bad None h = λ k l. h k (omega arith) l
+first_bad n Good Bad (Some i) h = (h.1, h.2, λ k l. h.3 k (omega arith) l)
+
+-- a point section that is told to have a switch, or none
+pub has_switch : (l : Layout) (s : ℕ) (b : Bool) → SwitchTold l s b → not b ≡ false → HasSwitch l s
+has_switch l s true h e = h
+has_switch l s false h e = cc
+
+pub no_switch : (l : Layout) (s : ℕ) (b : Bool) → SwitchTold l s b → not b ≡ true → NoSwitch l s
+no_switch l s true h e = cc
+no_switch l s false h e = h
 
 -- a refusal says that the sheet is not whole
 pub not_whole : (l : Layout) (s : ℕ) (f : PlanFault) → Looked l s (Err f) → Whole l s → ⊥

@@ -1,7 +1,9 @@
 -- What the records say after one port was made to name another.
-use Rattle.std.proofs.Common.{◌≡◌, ℕ, ◌<◌, ◌≤◌, true, cond, ltb, ◌≢◌, List, length, set, None, Option, sym, refl, ap, ◌∙◌, ⊎_elim, length-set, get_or-set_other, get_or-set_same}
+use Rattle.std.proofs.Common.{◌≡◌, ℕ, ◌<◌, ◌≤◌, true, cond, ltb, ◌≢◌, List, length, set, Some, None, Option, sym, refl, ap, ◌∙◌, ⊎_elim, length-set, get_or-set_other, get_or-set_same}
 use Rattle.std.proofs.lemmas.List.{get_or_past}
-use Rattle.std.proofs.lemmas.Bool.{cases_eq}
+use Rattle.std.proofs.lemmas.Bool.{cases_eq, cases_lt}
+use Rattle.std.proofs.lemmas.Option.{get_or_from_slice_get, slice_get-get_or}
+use Rattle.std.specs.List.{slice_get}
 use Rattle.plan.specs.declared.parts.Direction.TheVariants.{East}
 use Rattle.plan.specs.declared.parts.Kind.{Kind}
 use Rattle.plan.specs.declared.parts.Kind.TheVariants.{Signal, Straight}
@@ -24,6 +26,18 @@ blank_names k s Branch = refl
 pub past_names : (rs : List Component) (p : Port) → length rs ≤ p.component → named rs p ≡ None
 unfolding named
 past_names rs p h = ap (λ r. named_at r p.side) (get_or_past rs p.component _ h) ∙ blank_names (Signal East) 0 p.side
+
+-- what a port names, by its component's record
+pub names_some : (rs : List Component) (p : Port) (r : Component) → slice_get rs p.component ≡ Some r → named rs p ≡ named_at r p.side
+unfolding named
+names_some rs p r h = ap (λ x. named_at x p.side) (get_or_from_slice_get rs p.component r _ h)
+
+pub names_none : (rs : List Component) (p : Port) → slice_get rs p.component ≡ None → named rs p ≡ None
+names_none rs p h =
+    ⊎_elim
+    (λ l. let e = slice_get-get_or rs p.component (blank_component (Signal East) 0) l in cc)
+    (λ l. past_names rs p l)
+    (cases_lt p.component (length rs))
 
 naming_kind : (r : Component) (d : Side) (x : Option Port) → (naming r d x).kind ≡ r.kind
 naming_kind r West x = refl

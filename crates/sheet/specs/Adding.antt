@@ -1,9 +1,5 @@
--- What adding a component makes of a layout, and how a direction is written.
-use Rattle.std.specs.Prelude.{ℕ, ◌+◌, Bool, cond, ◌||◌, None, Ok, Err, Result, ◌==◌}
-use Rattle.fault.specs.declared.kinds.PlanFault.{PlanFault}
-use Rattle.fault.specs.declared.kinds.PlanFault.TheVariants.{WrongLetter}
-use Rattle.plan.specs.declared.parts.Direction.{Direction}
-use Rattle.plan.specs.declared.parts.Direction.TheVariants.{East, West}
+-- What adding a component makes of a layout.
+use Rattle.std.specs.Prelude.{ℕ, ◌+◌, cond, None, ◌==◌}
 use Rattle.plan.specs.declared.parts.Kind.{Kind}
 use Rattle.plan.specs.declared.parts.Kind.TheVariants.{Straight}
 use Rattle.plan.specs.Layout.{Layout}
@@ -19,13 +15,3 @@ with_component l k s = record {
   section = λ c. cond (c == l.count) s (l.section c);
   far = l.far;
 }
-
--- the byte of a direction: E or W
-abbrev pub is_letter : ℕ → Bool
-is_letter b = b == 69 || b == 87
-
-abbrev pub direction_at : ℕ → Direction
-direction_at b = cond (b == 69) East West
-
-abbrev pub told_direction : ℕ → Result Direction PlanFault
-told_direction b = cond (is_letter b) (Ok (direction_at b)) (Err WrongLetter)

@@ -6,11 +6,11 @@ use Rattle.sheet.specs.Connections.{layout_of}
 use Rattle.sheet.specs.Laws.{lawful_drawn}
 
 abbrev pub closed_layout : ClosedSheet → Layout
-closed_layout p = layout_of p.records.now p.shown
+closed_layout p = layout_of p.sheet.records.now p.shown
 
 pub closed_lawful : (p : ClosedSheet) → Lawful (closed_layout p)
 closed_lawful p =
-    let few = p.few in
+    let few = p.sheet.few in
     let part = p.part in
-    lawful_drawn p.records.now p.shown p.sections (omega arith) p.small
-    (λ k h. p.known k (omega arith))
+    lawful_drawn p.sheet.records.now p.shown p.sheet.sections (omega arith) p.sheet.small
+    (λ k h. p.sheet.known k (omega arith))

@@ -1,23 +1,11 @@
 -- When two ports of a sheet are connected, and what connecting and disconnecting make of a layout.
-use Rattle.std.specs.Prelude.{ℕ, Bool, true, false, cond, not, ◌&&◌, List, is_some, Some, None, Ok, Err, Option, Result, ◌==◌}
+use Rattle.std.specs.Prelude.{ℕ, Bool, cond, not, ◌&&◌, List, length, is_some, Some, None, Ok, Err, Option, Result}
 use Rattle.fault.specs.declared.kinds.PlanFault.{PlanFault}
 use Rattle.fault.specs.declared.kinds.PlanFault.TheVariants.{NoSuchPart, NotOpposed, AlreadyConnected, BlankPort}
-use Rattle.plan.specs.declared.parts.Direction.{Direction}
-use Rattle.plan.specs.declared.parts.Direction.TheVariants.{East, West}
 use Rattle.plan.specs.declared.parts.Port.{Port}
-use Rattle.plan.specs.Layout.{Layout, is_port, faces, same_port, leads_to}
+use Rattle.plan.specs.Layout.{Layout, is_port, opposed, same_port, leads_to}
 use Rattle.sheet.specs.declared.component.Component.{Component}
 use Rattle.sheet.specs.Records.{components_of, named}
-
-abbrev pub same_direction : Direction → Direction → Bool
-same_direction East East = true
-same_direction East West = false
-same_direction West East = false
-same_direction West West = true
-
--- the two ports face opposite ways and belong to different components
-abbrev pub opposed : Layout → Port → Port → Bool
-opposed l p q = not (same_direction (faces l p) (faces l q)) && not (p.component == q.component)
 
 unfoldable pub may_connect : Layout → Port → Port → Bool
 may_connect l p q = (is_port l p && is_port l q) && opposed l p q
@@ -38,6 +26,10 @@ layout_of rs n = record {
   section = (components_of rs n).section;
   far = far_in (components_of rs n) (named rs);
 }
+
+-- what all the records say
+abbrev pub drawn : List Component → Layout
+drawn rs = layout_of rs (length rs)
 
 abbrev pub is_blank : Layout → Port → Bool
 is_blank l p = not (is_some (l.far p))

@@ -7,11 +7,11 @@ use Rattle.plan.specs.declared.parts.Direction.{Direction}
 use Rattle.plan.specs.declared.parts.Direction.TheVariants.{East, West}
 use Rattle.plan.specs.declared.parts.Kind.TheVariants.{Straight}
 use Rattle.plan.specs.declared.parts.Port.{Port}
-use Rattle.plan.specs.Layout.{Layout, Lawful, opposite, is_switch, is_port, faces, leads_to}
+use Rattle.plan.specs.Layout.{Layout, Lawful, opposite, is_switch, is_port, faces, same_direction, opposed, leads_to}
 use Rattle.plan.proofs.Ports.{both, and, leads, led}
 use Rattle.sheet.specs.declared.component.Component.{Component}
 use Rattle.sheet.specs.Records.{at, components_of, named, section_stands}
-use Rattle.sheet.specs.Connections.{same_direction, opposed, may_connect, far_to, far_in, layout_of}
+use Rattle.sheet.specs.Connections.{may_connect, far_to, far_in, layout_of}
 
 turned : (a b : Direction) → not (same_direction a b) ≡ true → b ≡ opposite a
 turned East East h = cc

@@ -1,11 +1,10 @@
 -- Looking over a sheet.
-use Rattle.std.specs.Prelude.{◌≡◌, ℕ, ◌<◌, Bool, true, false, cond, ◌&&◌, is_some, Ok, Err, Result, ◌==◌}
+use Rattle.std.specs.Prelude.{◌≡◌, ℕ, ◌<◌, Bool, true, false, cond, ◌&&◌, is_some, Some, None, Ok, Err, Option, Result, ◌==◌}
 use Rattle.fault.specs.declared.kinds.PlanFault.{PlanFault}
 use Rattle.fault.specs.declared.kinds.PlanFault.TheVariants.{File, SheetFull, WrongLetter, NoSuchPart, NotOpposed, NotNamedBack, AlreadyConnected, BlankPort, WrongSwitchCount}
 use Rattle.plan.specs.declared.parts.Kind.{Kind}
 use Rattle.plan.specs.declared.parts.Side.TheVariants.{West as WestSide, East as EastSide, Branch}
-use Rattle.plan.specs.Layout.{Layout, is_switch}
-use Rattle.sheet.specs.Records.{port_at}
+use Rattle.plan.specs.Layout.{Layout, is_switch, port as port_at}
 
 -- a component that is a switch has no blank port
 abbrev pub is_whole : Layout → ℕ → Bool
@@ -27,6 +26,11 @@ NoSwitch l s = (c : ℕ) → c < l.count → belongs (l.kind c) (l.section c) s 
 abbrev pub SwitchTold : Layout → ℕ → Bool → Type 0
 SwitchTold l s true = HasSwitch l s
 SwitchTold l s false = NoSwitch l s
+
+-- the first number below n that is bad, where all before it are good; none where all are
+abbrev pub FirstBad : ℕ → (ℕ → Type 0) → (ℕ → Type 0) → Option ℕ → Type 0
+FirstBad n Good Bad None = (k : ℕ) → k < n → Good k
+FirstBad n Good Bad (Some i) = (i < n) × Bad i × ((k : ℕ) → k < i → Good k)
 
 -- no switch has a blank port, and each of the s point sections has a switch
 pub record Whole (l : Layout) (s : ℕ) : Type 0 where

@@ -9,9 +9,6 @@ use Rattle.plan.specs.declared.parts.Port.{Port}
 use Rattle.plan.specs.Layout.{Layout, is_switch}
 use Rattle.sheet.specs.declared.component.Component.{Component}
 
-abbrev pub port_at : ℕ → Side → Port
-port_at c d = record { component = c; side = d }
-
 -- a component whose ports are blank
 abbrev pub blank_component : Kind → ℕ → Component
 blank_component k s = record { kind = k; section = s; west = None; east = None; branch = None }

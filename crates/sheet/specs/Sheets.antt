@@ -5,11 +5,12 @@ use Rattle.fault.specs.declared.kinds.PlanFault.TheVariants.{SheetFull, WrongLet
 use Rattle.plan.specs.declared.parts.Kind.{Kind}
 use Rattle.plan.specs.declared.parts.Side.{Side}
 use Rattle.plan.specs.declared.parts.Port.{Port}
-use Rattle.plan.specs.Layout.{Layout}
+use Rattle.plan.specs.Layout.{Layout, port as port_at}
+use Rattle.plan.specs.Letters.{is_letter}
 use Rattle.sheet.specs.declared.sheet.Sheet.{Sheet}
-use Rattle.sheet.specs.Records.{port_at, blank_component, put_in}
+use Rattle.sheet.specs.Records.{blank_component, put_in}
 use Rattle.sheet.specs.Connections.{layout_of, connected, disconnected}
-use Rattle.sheet.specs.Adding.{with_component, is_letter}
+use Rattle.sheet.specs.Adding.{with_component}
 
 abbrev pub plan_of : Sheet → Layout
 plan_of s = layout_of s.records.now s.count
@@ -37,6 +38,11 @@ told_switch s letter section =
 
 abbrev pub told_section : Sheet → Result ℕ PlanFault
 told_section s = cond (nat_lt s.sections 512) (Ok s.sections) (Err SheetFull)
+
+-- the lent space is the same space, and as long
+pub record SameSpace (before after : Sheet) : Type 0 where
+  pub held : after.records.ghost_name ≡ before.records.ghost_name
+  pub size : length after.records.now ≡ length before.records.now
 
 -- after an accepted call: the layout, and what every record holds
 

@@ -1,8 +1,9 @@
-ghost use Rattle.std.specs.Prelude.{◌≡◌, ◌+◌, ◌<◌, true, length, MatchResult};
+ghost use Rattle.std.specs.Prelude.{◌≡◌, ◌+◌, true, MatchResult};
 ghost use Rattle.plan.specs.declared.parts.Kind.TheVariants.{Signal, Switch, Straight};
-ghost use Rattle.sheet.specs.Adding.{empty_layout, direction_at, told_direction};
+ghost use Rattle.plan.specs.Letters.{direction_at};
+ghost use Rattle.sheet.specs.Adding.{empty_layout};
 ghost use Rattle.sheet.specs.Records.{blank_component, section_stands};
-ghost use Rattle.sheet.specs.Sheets.{plan_of, has_room, told_room, told_straight, told_signal, told_switch, told_section, ComponentAdded, SectionAdded};
+ghost use Rattle.sheet.specs.Sheets.{plan_of, has_room, told_room, told_straight, told_signal, told_switch, told_section, SameSpace, ComponentAdded, SectionAdded};
 
 use crate::component::Component;
 use crate::sheet::Sheet;
@@ -11,16 +12,6 @@ use plan::parts::{Direction, Kind};
 
 // At most so many components, and so many point sections.
 const MOST: u16 = 512;
-
-fn direction(letter: u8) -> Result<Direction, PlanFault>
-    ensures { result ≡ told_direction letter }
-{
-    match letter {
-        b'E' => Ok(Direction::East),
-        b'W' => Ok(Direction::West),
-        _ => Err(PlanFault::WrongLetter),
-    }
-}
 
 impl<'a> Sheet<'a> {
     // A sheet without components or point sections. It writes nothing yet.
@@ -54,8 +45,7 @@ impl<'a> Sheet<'a> {
         requires stands { section_stands (blank_component kind section) self.old.sections ≡ true }
         ensures number { result ≡ self.old.count }
         ensures after { ComponentAdded self.old self.new kind section }
-        ensures held { self.new.records.ghost_name ≡ self.old.records.ghost_name }
-        ensures size { length self.new.records.now ≡ length self.old.records.now }
+        ensures space { SameSpace self.old self.new }
     {
         let number = self.count;
         self.records[usize::from(number)] = Component::blank(kind, section);
@@ -66,22 +56,20 @@ impl<'a> Sheet<'a> {
     pub fn add_signal(&mut self, letter: u8) -> Result<u16, PlanFault>
         ensures told { result ≡ told_signal self.old letter }
         ensures after { MatchResult result (λ _. ComponentAdded self.old self.new (Signal (direction_at letter)) 0) (λ _. self.new ≡ self.old) }
-        ensures held { self.new.records.ghost_name ≡ self.old.records.ghost_name }
-        ensures size { length self.new.records.now ≡ length self.old.records.now }
+        ensures space { SameSpace self.old self.new }
     {
         self.room()?;
-        let direction = direction(letter)?;
+        let direction = Direction::try_from(letter)?;
         Ok(self.add(Kind::Signal(direction), 0))
     }
 
     pub fn add_switch(&mut self, letter: u8, section: u16) -> Result<u16, PlanFault>
         ensures told { result ≡ told_switch self.old letter section }
         ensures after { MatchResult result (λ _. ComponentAdded self.old self.new (Switch (direction_at letter)) section) (λ _. self.new ≡ self.old) }
-        ensures held { self.new.records.ghost_name ≡ self.old.records.ghost_name }
-        ensures size { length self.new.records.now ≡ length self.old.records.now }
+        ensures space { SameSpace self.old self.new }
     {
         self.room()?;
-        let direction = direction(letter)?;
+        let direction = Direction::try_from(letter)?;
         if section >= self.sections {
             return Err(PlanFault::NoSuchPart(0));
         }
@@ -91,8 +79,7 @@ impl<'a> Sheet<'a> {
     pub fn add_straight(&mut self) -> Result<u16, PlanFault>
         ensures told { result ≡ told_straight self.old }
         ensures after { MatchResult result (λ _. ComponentAdded self.old self.new Straight 0) (λ _. self.new ≡ self.old) }
-        ensures held { self.new.records.ghost_name ≡ self.old.records.ghost_name }
-        ensures size { length self.new.records.now ≡ length self.old.records.now }
+        ensures space { SameSpace self.old self.new }
     {
         self.room()?;
         Ok(self.add(Kind::Straight, 0))
@@ -102,8 +89,7 @@ impl<'a> Sheet<'a> {
     pub fn add_section(&mut self) -> Result<u16, PlanFault>
         ensures told { result ≡ told_section self.old }
         ensures after { MatchResult result (λ _. SectionAdded self.old self.new) (λ _. self.new ≡ self.old) }
-        ensures held { self.new.records.ghost_name ≡ self.old.records.ghost_name }
-        ensures size { length self.new.records.now ≡ length self.old.records.now }
+        ensures space { SameSpace self.old self.new }
     {
         if self.sections >= MOST {
             return Err(PlanFault::SheetFull);

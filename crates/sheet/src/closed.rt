@@ -1,18 +1,11 @@
-ghost use Rattle.std.specs.Prelude.{◌≡◌, ℕ, ◌<◌, ◌≤◌, true, length};
-ghost use Rattle.sheet.specs.Records.{at, section_stands};
+ghost use Rattle.std.specs.Prelude.{◌≤◌};
 
-use crate::component::Component;
+use crate::sheet::Sheet;
 
 // A sheet that was taken away. It shows all its components, or none where the look refuses the sheet.
 #[derive(Drop)]
 pub struct ClosedSheet<'a> {
-    pub(crate) records: &'a mut [Component],
-    pub(crate) count: u16,
-    pub(crate) sections: u16,
+    pub(crate) sheet: Sheet<'a>,
     pub(crate) shown: u16,
-    ghost fits: { count ≤ length records.now },
-    ghost few: { count ≤ 512 },
-    ghost small: { sections ≤ 512 },
-    ghost known: { (k : ℕ) → k < count → section_stands (at records.now k) sections ≡ true },
-    ghost part: { shown ≤ count },
+    ghost part: { shown ≤ sheet.count },
 }

@@ -12,47 +12,22 @@ impl<'a> Sheet<'a> {
     pub fn close(self) -> ClosedSheet<'a>
         ensures whole { Whole (plan_of self.entry) self.entry.sections → closed_layout result ≡ plan_of self.entry }
         ensures refused { (Whole (plan_of self.entry) self.entry.sections → ⊥) → closed_layout result ≡ empty_layout }
-        ensures records { result.records.now ≡ self.entry.records.now }
-        ensures count { result.count ≡ self.entry.count }
-        ensures sections { result.sections ≡ self.entry.sections }
-        ensures held { result.records.ghost_name ≡ self.entry.records.ghost_name }
+        ensures sheet { result.sheet ≡ self.entry }
     {
         let shown = match self.look_over() {
             Ok(()) => self.count,
             Err(_) => 0,
         };
-        let Sheet {
-            records,
-            count,
-            sections,
-        } = self;
-        ClosedSheet {
-            records,
-            count,
-            sections,
-            shown,
-        }
+        ClosedSheet { sheet: self, shown }
     }
 }
 
 impl<'a> ClosedSheet<'a> {
     // Gives the sheet back as it was closed.
     pub fn reopen(self) -> Sheet<'a>
-        ensures records { result.records.now ≡ self.entry.records.now }
-        ensures count { result.count ≡ self.entry.count }
-        ensures sections { result.sections ≡ self.entry.sections }
-        ensures held { result.records.ghost_name ≡ self.entry.records.ghost_name }
+        ensures { result ≡ self.entry.sheet }
     {
-        let ClosedSheet {
-            records,
-            count,
-            sections,
-            shown: _,
-        } = self;
-        Sheet {
-            records,
-            count,
-            sections,
-        }
+        let ClosedSheet { sheet, shown: _ } = self;
+        sheet
     }
 }

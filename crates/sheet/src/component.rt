@@ -32,10 +32,7 @@ impl Component {
     pub(crate) fn belongs(self, section: u16) -> bool
         ensures { result ≡ belongs self.kind self.section section }
     {
-        match self.kind {
-            Kind::Switch(_) => self.section == section,
-            _ => false,
-        }
+        self.kind.is_switch() && self.section == section
     }
 
     pub(crate) fn named(self, side: Side) -> Option<Port>
@@ -52,12 +49,13 @@ impl Component {
     pub(crate) fn naming(self, side: Side, far: Option<Port>) -> Component
         ensures { result ≡ naming self side far }
     {
-        let mut record = self;
         match side {
-            Side::West => record.west = far,
-            Side::East => record.east = far,
-            Side::Branch => record.branch = far,
+            Side::West => Component { west: far, ..self },
+            Side::East => Component { east: far, ..self },
+            Side::Branch => Component {
+                branch: far,
+                ..self
+            },
         }
-        record
     }
 }

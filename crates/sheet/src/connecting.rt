@@ -1,7 +1,7 @@
-ghost use Rattle.std.specs.Prelude.{◌≡◌, ◌<◌, length, MatchResult};
+ghost use Rattle.std.specs.Prelude.{◌≡◌, ◌<◌, MatchResult};
 ghost use Rattle.sheet.specs.Connections.{told_connect, told_disconnect};
 ghost use Rattle.sheet.specs.Records.{put_in};
-ghost use Rattle.sheet.specs.Sheets.{plan_of, Connected, Disconnected};
+ghost use Rattle.sheet.specs.Sheets.{plan_of, SameSpace, Connected, Disconnected};
 
 use crate::sheet::Sheet;
 use fault::kinds::PlanFault;
@@ -14,8 +14,7 @@ impl<'a> Sheet<'a> {
         ensures records { self.new.records.now ≡ put_in self.old.records.now port far }
         ensures count { self.new.count ≡ self.old.count }
         ensures sections { self.new.sections ≡ self.old.sections }
-        ensures held { self.new.records.ghost_name ≡ self.old.records.ghost_name }
-        ensures size { length self.new.records.now ≡ length self.old.records.now }
+        ensures space { SameSpace self.old self.new }
     {
         let component = usize::from(port.component);
         self.records[component] = self.records[component].naming(port.side, far);
@@ -24,16 +23,14 @@ impl<'a> Sheet<'a> {
     pub fn connect(&mut self, a: Port, b: Port) -> Result<(), PlanFault>
         ensures told { result ≡ told_connect (plan_of self.old) a b }
         ensures after { MatchResult result (λ _. Connected self.old self.new a b) (λ _. self.new ≡ self.old) }
-        ensures held { self.new.records.ghost_name ≡ self.old.records.ghost_name }
-        ensures size { length self.new.records.now ≡ length self.old.records.now }
+        ensures space { SameSpace self.old self.new }
     {
-        if !self.is_port(a) || !self.is_port(b) {
-            return Err(PlanFault::NoSuchPart(0));
-        }
-        if !self.is_opposed(a, b) {
+        let far_a = self.far(a)?;
+        let far_b = self.far(b)?;
+        if !self.drawn().is_opposed(a, b) {
             return Err(PlanFault::NotOpposed(0));
         }
-        if self.far_of(a).is_some() || self.far_of(b).is_some() {
+        if far_a.is_some() || far_b.is_some() {
             return Err(PlanFault::AlreadyConnected);
         }
         self.put(a, Some(b));
@@ -44,13 +41,9 @@ impl<'a> Sheet<'a> {
     pub fn disconnect(&mut self, port: Port) -> Result<(), PlanFault>
         ensures told { result ≡ told_disconnect (plan_of self.old) port }
         ensures after { MatchResult result (λ _. Disconnected self.old self.new port) (λ _. self.new ≡ self.old) }
-        ensures held { self.new.records.ghost_name ≡ self.old.records.ghost_name }
-        ensures size { length self.new.records.now ≡ length self.old.records.now }
+        ensures space { SameSpace self.old self.new }
     {
-        if !self.is_port(port) {
-            return Err(PlanFault::NoSuchPart(0));
-        }
-        let Some(far) = self.far_of(port) else {
+        let Some(far) = self.far(port)? else {
             return Err(PlanFault::BlankPort(0));
         };
         self.put(port, None);

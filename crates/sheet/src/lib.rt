@@ -7,7 +7,7 @@ pub mod closed;
 pub mod closing;
 pub mod component;
 pub mod connecting;
+pub mod drawn;
 pub mod looking;
-pub mod reads;
 pub mod sheet;
 pub mod telling;

@@ -1,10 +1,22 @@
+ghost use Rattle.std.specs.Prelude.{◌≡◌};
 ghost use Rattle.sheet.specs.Closing.{closed_layout, closed_lawful};
+ghost use Rattle.sheet.specs.Connections.{drawn};
 
 use crate::closed::ClosedSheet;
-use crate::reads::{far, is_port};
+use crate::drawn::Drawn;
 use fault::kinds::PlanFault;
 use plan::interface::Plan;
 use plan::parts::{Kind, Port};
+
+impl ClosedSheet<'_> {
+    fn drawn(&self) -> Drawn<'_>
+        ensures { drawn result.records.now ≡ closed_layout self.now }
+    {
+        Drawn {
+            records: &self.sheet.records[..usize::from(self.shown)],
+        }
+    }
+}
 
 impl Plan for ClosedSheet<'_> {
     ghost layout = { closed_layout };
@@ -16,25 +28,14 @@ impl Plan for ClosedSheet<'_> {
     }
 
     fn kind(&self, component: u16) -> Result<Kind, PlanFault> {
-        if component < self.shown {
-            Ok(self.records[usize::from(component)].kind)
-        } else {
-            Err(PlanFault::NoSuchPart(0))
-        }
+        self.drawn().kind(component)
     }
 
     fn section(&self, component: u16) -> Result<u16, PlanFault> {
-        let Kind::Switch(_) = self.kind(component)? else {
-            return Err(PlanFault::NoSuchPart(0));
-        };
-        Ok(self.records[usize::from(component)].section)
+        self.drawn().section(component)
     }
 
     fn far(&self, port: Port) -> Result<Option<Port>, PlanFault> {
-        if is_port(self.records, self.shown, port) {
-            Ok(far(self.records, self.shown, port))
-        } else {
-            Err(PlanFault::NoSuchPart(0))
-        }
+        self.drawn().far(port)
     }
 }

@@ -1,22 +1,22 @@
-use Rattle.std.proofs.Common.{◌≡◌, ◌+◌, ◌*◌, cond, ltb, ◌∷◌, length, drop, ap, ◌∙◌, arith, length-append}
+use Rattle.std.proofs.Common.{◌≡◌, ◌+◌, length, sym, ap, ◌∙◌, arith, rules, tests}
+use Rattle.std.specs.List.{sum_by}
+use Rattle.std.proofs.iter.runs.Made.{chains}
+use Rattle.std.proofs.lemmas.Iterator.{YieldsList-from_slice}
+use Rattle.std.proofs.lemmas.Iterator.Adapters.{fits_from_length, at_most_from_yields_List}
 use Rattle.numbers.specs.Stored.{number}
-use Rattle.row.specs.Row.{entries_of}
+use Rattle.row.proofs.Rows.{row_parts}
 use Rattle.lines.specs.Lines.{shown, row_line}
-use Rattle.lines.proofs.Along.{line_step, line_none, entry_small}
+use Rattle.lines.proofs.Pairs.{entries_pairs, length_pairs}
 use Rattle.lines.proofs.rows.line_count.Goals as goal
 
-pub shown_count-requires : goal.shown_count-requires
-shown_count-requires c = let small = entry_small c.args.row.now c.loop-i.i c.requires (omega arith) in omega arith
-
-pub loop-i-preserved : goal.loop-i-preserved
-loop-i-preserved c =
-    let s = c.args.row.now in
-    let i = c.loop-i.i in
-    let e = number s (2 + 2 * i) in
-    let rest = row_line (drop (i + 1) (entries_of s)) in
-    let count : c.shown_count.result ≡ length (shown e) = c.shown_count.ensures.value ∙ ap (λ x. length (shown x)) c.known_entry.ensures in
-    let step = ap length (line_step s i (omega arith)) ∙ length-append (shown e) (cond (ltb (i + 1) (number s 0)) 32 10 ∷ rest) in
-    (omega arith, omega arith)
+pub sum-requires-clause-fits : goal.sum-requires-clause-fits
+sum-requires-clause-fits c =
+    let p = row_parts c.args.row.now c.requires in
+    let k = c.pairs.ensures.count in
+    fits_from_length _ _ 512 _ (at_most_from_yields_List (YieldsList-from_slice c.pairs.result.now cc) (omega arith)) c.map.ensures.closure (omega arith) (λ x r q k. search (rules, tests))
 
 pub returns : goal.returns
-returns c = let none = ap length (line_none c.args.row.now c.loop-i.i (omega arith)) in omega arith
+returns c =
+    let ps = c.pairs.result.now in
+    let e : c.sum.result ≡ sum_by (λ p. length (shown (number p 0)) + 1) ps = search (rules, chains) in
+    e ∙ sym (ap (λ es. length (row_line es)) (entries_pairs c.args.row.now ps c.requires c.pairs.ensures.numbers) ∙ length_pairs ps)

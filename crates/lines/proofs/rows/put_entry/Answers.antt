@@ -1,57 +1,43 @@
-use Rattle.std.proofs.Common.{◌/◌, length, set, sym, ap, ◌∙◌, arith}
-use Rattle.row.specs.Put.{put}
-use Rattle.row.proofs.Puts.{put_then}
+use Rattle.std.proofs.Common.{◌/◌, [], ◌∷◌, length, Some, None, refl, sym, ap, ◌∙◌, append-nil, arith, length-append}
+use Rattle.plan.specs.declared.parts.Position.TheVariants.{Normal, Reverse}
+use Rattle.row.specs.Lies.{lie_of}
 use Rattle.lines.specs.Decimal.{decimal}
-use Rattle.lines.proofs.Shown.{shown_normal, shown_reverse, shown_plain, length_normal, length_reverse, length_digits}
+use Rattle.lines.specs.Lines.{letter}
+use Rattle.lines.proofs.Shown.{shown_as}
+use Rattle.lines.proofs.Writing.{room_left, written_more}
 use Rattle.lines.proofs.rows.put_entry.Goals as goal
 
-pub put_small-end-requires : goal.put_small-end-requires
-put_small-end-requires c = let l = length_digits c.args.e in (omega arith, omega arith)
+pub small-requires-clause-room : goal.small-requires-clause-room
+small-requires-clause-room c =
+    let e = c.args.e in
+    let s = ap length (shown_as e (lie_of e) refl) ∙ length-append (decimal (e / 4)) (letter (lie_of e)) in
+    rw c.component.ensures (omega arith)
 
-pub bounds-space-end : goal.bounds-space-end
-bounds-space-end c = let l = length_normal c.args.e (omega arith) in omega arith
+pub byte-requires : goal.byte-requires
+byte-requires c =
+    let e = shown_as c.args.e (Some Normal) (sym c.lie.ensures ∙ c.in-Some-Normal.is ∙ ap Some c.in-Some-Normal.field-0-is) in
+    let w = rw c.component.ensures at c.small.ensures in
+    room_left c.args.line.now c.small.new.self (decimal (c.args.e / 4)) (78 ∷ []) (rw e at c.requires.room) w
 
-pub overflow_add-result : goal.overflow_add-result
-overflow_add-result c = let l = length_normal c.args.e (omega arith) in omega arith
+pub byte-requires-in-Some-Reverse : goal.byte-requires-in-Some-Reverse
+byte-requires-in-Some-Reverse c =
+    let e = shown_as c.args.e (Some Reverse) (sym c.lie.ensures ∙ c.in-Some-Reverse.is ∙ ap Some c.in-Some-Reverse.field-0-is) in
+    let w = rw c.component.ensures at c.small.ensures in
+    room_left c.args.line.now c.small.new.self (decimal (c.args.e / 4)) (82 ∷ []) (rw e at c.requires.room) w
 
-pub bounds-space-end-then-e-eq2 : goal.bounds-space-end-then-e-eq2
-bounds-space-end-then-e-eq2 c = let l = length_reverse c.args.e (omega arith) in omega arith
+pub returns-in-Some-Normal : goal.returns-in-Some-Normal
+returns-in-Some-Normal c =
+    let e = shown_as c.args.e (Some Normal) (sym c.lie.ensures ∙ c.in-Some-Normal.is ∙ ap Some c.in-Some-Normal.field-0-is) in
+    let w = rw c.component.ensures at c.small.ensures in
+    rw e (written_more _ _ _ (78 ∷ []) (rw e at c.requires.room) w _ c.byte.ensures)
 
-pub overflow_add-result-then-e-eq2 : goal.overflow_add-result-then-e-eq2
-overflow_add-result-then-e-eq2 c = let l = length_reverse c.args.e (omega arith) in omega arith
+pub returns-in-Some-Reverse : goal.returns-in-Some-Reverse
+returns-in-Some-Reverse c =
+    let e = shown_as c.args.e (Some Reverse) (sym c.lie.ensures ∙ c.in-Some-Reverse.is ∙ ap Some c.in-Some-Reverse.field-0-is) in
+    let w = rw c.component.ensures at c.small.ensures in
+    rw e (written_more _ _ _ (82 ∷ []) (rw e at c.requires.room) w _ c.byte-in-Some-Reverse.ensures)
 
-pub returns-then-e-eq1 : goal.returns-then-e-eq1
-returns-then-e-eq1 c =
-    let s = c.args.space.now in
-    let at = c.args.at in
-    let d = decimal (c.args.e / 4) in
-    let l = length_normal c.args.e (omega arith) in
-    record {
-      next = omega arith;
-      left = ap (λ x. set x c.put_small-end.result 78) c.put_small-end.ensures.left
-          ∙ ap (λ p. set (put s at d) p 78) c.put_small-end.ensures.next
-          ∙ put_then s at d 78 (omega arith)
-          ∙ ap (put s at) (sym (shown_normal c.args.e (omega arith)));
-    }
-
-pub returns-then-e-eq2 : goal.returns-then-e-eq2
-returns-then-e-eq2 c =
-    let s = c.args.space.now in
-    let at = c.args.at in
-    let d = decimal (c.args.e / 4) in
-    let l = length_reverse c.args.e (omega arith) in
-    record {
-      next = omega arith;
-      left = ap (λ x. set x c.put_small-end.result 82) c.put_small-end.ensures.left
-          ∙ ap (λ p. set (put s at d) p 82) c.put_small-end.ensures.next
-          ∙ put_then s at d 82 (omega arith)
-          ∙ ap (put s at) (sym (shown_reverse c.args.e (omega arith)));
-    }
-
-pub returns : goal.returns
-returns c =
-    let s = c.args.space.now in
-    let at = c.args.at in
-    let plain = shown_plain c.args.e (λ q. omega arith) (λ q. omega arith) in
-    let l = ap length plain in
-    record { next = omega arith; left = c.put_small-end.ensures.left ∙ ap (put s at) (sym plain) }
+pub returns-in-None : goal.returns-in-None
+returns-in-None c =
+    let e = shown_as c.args.e None (sym c.lie.ensures ∙ c.in-None.is) ∙ append-nil (decimal (c.args.e / 4)) in
+    rw (e, ← c.component.ensures) c.small.ensures

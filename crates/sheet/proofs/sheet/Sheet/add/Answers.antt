@@ -1,7 +1,8 @@
 use Rattle.std.proofs.Common.{◌≡◌, ◌+◌, ◌≤◌, true, List, length, set, sym, refl, ◌∙◌, subst, arith, length-set}
 use Rattle.std.proofs.lemmas.Bool.{ltb-true, and_parts}
 use Rattle.sheet.specs.declared.component.Component.{Component}
-use Rattle.sheet.specs.Records.{port_at, at, section_stands}
+use Rattle.plan.specs.Layout.{port as port_at}
+use Rattle.sheet.specs.Records.{at, section_stands}
 use Rattle.sheet.specs.Connections.{layout_of}
 use Rattle.sheet.proofs.Growth.{added_blank, added_layout, added_stands}
 use Rattle.sheet.proofs.sheet.Sheet.add.Goals as goal
@@ -39,6 +40,5 @@ returns c =
         count = refl;
         sections = refl;
       };
-      held = refl;
-      size = simp length-set;
+      space = record { held = refl; size = simp length-set };
     }

@@ -19,8 +19,5 @@ returns c =
             | in-Ok w ↦ absurd (refused w.in-Ok.ensures.looked)
             | in-Err w ↦ ap (layout_of rs) w.shown-is ∙ empty_drawn rs
           ];
-      records = refl;
-      count = refl;
-      sections = refl;
-      held = refl;
+      sheet = refl;
     }

@@ -20,6 +20,5 @@ returns c = record {
   records = put_is _ _ c.args.port c.args.far _ c.from-component.ensures c.naming.ensures;
   count = refl;
   sections = refl;
-  held = refl;
-  size = simp length-set;
+  space = record { held = refl; size = simp length-set };
 }
