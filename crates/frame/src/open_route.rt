@@ -10,6 +10,16 @@ pub struct OpenRoute {
     pub(crate) row: Entries,
 }
 
+// What the frame's free places hold; no slip has the serial 0.
+impl Default for OpenRoute {
+    fn default() -> OpenRoute {
+        OpenRoute {
+            serial: 0,
+            row: Entries::new(),
+        }
+    }
+}
+
 impl OpenRoute {
     pub fn serial(&self) -> u16
         ensures { result ≡ self.now.serial }
