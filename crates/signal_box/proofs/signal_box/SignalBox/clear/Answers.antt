@@ -11,7 +11,6 @@ returns g c =
     let e = c.clear.ensures in
     let T : g.row.P.Denot → Type 0 = λ q. Marking (g.P.Plan.layout q) c.args.section (refusal c.clear.result) in
     record {
-      plan = refl;
       refused = λ h. ap (λ (f : Frame). record { register = x.register; frame = f }) (e.refused h);
-      journal = λ j kept. cleared _ j x kept c.clear.new.self c.args.section c.clear.result (subst T c.plan.ensures e.told) e.refused e.after;
+      journal = record { plan = refl; noted = λ j kept. cleared _ j x kept c.clear.new.self c.args.section c.clear.result (subst T c.plan.ensures e.told) e.refused e.after };
     }

@@ -11,7 +11,6 @@ returns g c =
     let e = c.occupy.ensures in
     let T : g.row.P.Denot → Type 0 = λ q. Marking (g.P.Plan.layout q) c.args.section (refusal c.occupy.result) in
     record {
-      plan = refl;
       refused = λ h. ap (λ (f : Frame). record { register = x.register; frame = f }) (e.refused h);
-      journal = λ j kept. occupied _ j x kept c.occupy.new.self c.args.section c.occupy.result (subst T c.plan.ensures e.told) e.refused e.after;
+      journal = record { plan = refl; noted = λ j kept. occupied _ j x kept c.occupy.new.self c.args.section c.occupy.result (subst T c.plan.ensures e.told) e.refused e.after };
     }

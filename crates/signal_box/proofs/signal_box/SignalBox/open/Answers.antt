@@ -12,7 +12,6 @@ returns g c =
     let e = c.open.ensures in
     let T : g.row.P.Denot → Type 0 = λ q. Opening (g.P.Plan.layout q) (view x.frame) c.args.row.now (refusal c.open.result) in
     record {
-      plan = refl;
       refused = λ h. ap (λ (f : Frame). record { register = x.register; frame = f }) (e.refused h);
-      journal = λ j kept. opened _ j x kept c.open.new.self c.args.row.now c.open.result (subst T c.plan.ensures e.told) e.serial e.refused e.after;
+      journal = record { plan = refl; noted = λ j kept. opened _ j x kept c.open.new.self c.args.row.now c.open.result (subst T c.plan.ensures e.told) e.serial e.refused e.after };
     }

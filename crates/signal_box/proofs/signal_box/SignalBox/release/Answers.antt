@@ -7,7 +7,6 @@ returns g c =
     let x = c.args.self.now in
     let e = c.release.ensures in
     record {
-      plan = refl;
       kept = handed_back x c.release.new.self c.args.slip c.release.result e.kept;
-      journal = λ j kept. released _ j x kept c.release.new.self c.args.slip c.release.result e.told e.kept e.after;
+      journal = record { plan = refl; noted = λ j kept. released _ j x kept c.release.new.self c.args.slip c.release.result e.told e.kept e.after };
     }

@@ -12,7 +12,6 @@ returns g c =
     let e = c.throw.ensures in
     let T : g.row.P.Denot → Type 0 = λ q. Throwing (g.P.Plan.layout q) (view x.frame) c.args.switch (refusal c.throw.result) in
     record {
-      plan = refl;
       refused = λ h. ap (λ (f : Frame). record { register = x.register; frame = f }) (e.refused h);
-      journal = λ j kept. thrown _ j x kept c.throw.new.self c.args.switch c.args.to c.throw.result (subst T c.plan.ensures e.told) e.refused e.after;
+      journal = record { plan = refl; noted = λ j kept. thrown _ j x kept c.throw.new.self c.args.switch c.args.to c.throw.result (subst T c.plan.ensures e.told) e.refused e.after };
     }

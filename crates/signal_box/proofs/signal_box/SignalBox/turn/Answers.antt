@@ -8,7 +8,6 @@ returns g c =
     let x = c.args.self.now in
     let e = c.turn.ensures in
     record {
-      plan = e.plan;
       refused = λ h. let s = e.refused h in (ap (λ (y : Register g.row.P.Denot). record { register = y; frame = x.frame }) s.0, s.1);
-      journal = λ j kept. turned _ j x kept _ _ _ _ e.refused e.history;
+      journal = record { plan = e.plan; noted = λ j kept. turned _ j x kept _ _ _ _ e.refused e.history };
     }
