@@ -4,4 +4,5 @@
 
 pub mod carrying;
 pub mod kinds;
+pub mod showing;
 pub mod telling;

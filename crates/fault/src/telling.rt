@@ -3,11 +3,11 @@ ghost use Rattle.fault.specs.Table.{file_told, plan_told, box_told};
 
 use crate::kinds::{BoxFault, FileFault, Layer, PlanFault, Told};
 
-impl FileFault {
-    pub fn tell(self) -> Told
-        ensures { result ≡ file_told self }
-    {
-        let (number, place) = match self {
+impl From<FileFault> for Told {
+    ghost from_gives = { λ e r. r ≡ file_told e };
+
+    fn from(fault: FileFault) -> Told {
+        let (number, place) = match fault {
             FileFault::CutOff(place) => (1, place),
             FileFault::LeftOver(place) => (2, place),
             FileFault::TooMany(place) => (3, place),
@@ -21,12 +21,12 @@ impl FileFault {
     }
 }
 
-impl PlanFault {
-    pub fn tell(self) -> Told
-        ensures { result ≡ plan_told self }
-    {
-        let (number, place) = match self {
-            PlanFault::File(fault) => return fault.tell(),
+impl From<PlanFault> for Told {
+    ghost from_gives = { λ e r. r ≡ plan_told e };
+
+    fn from(fault: PlanFault) -> Told {
+        let (number, place) = match fault {
+            PlanFault::File(fault) => return Told::from(fault),
             PlanFault::SheetFull => (3, 0),
             PlanFault::WrongLetter => (4, 0),
             PlanFault::NoSuchPart(place) => (5, place),
@@ -44,12 +44,12 @@ impl PlanFault {
     }
 }
 
-impl BoxFault {
-    pub fn tell(self) -> Told
-        ensures { result ≡ box_told self }
-    {
-        let (number, place) = match self {
-            BoxFault::Plan(fault) => return fault.tell(),
+impl From<BoxFault> for Told {
+    ghost from_gives = { λ e r. r ≡ box_told e };
+
+    fn from(fault: BoxFault) -> Told {
+        let (number, place) = match fault {
+            BoxFault::Plan(fault) => return Told::from(fault),
             BoxFault::NoSuchSection => (5, 0),
             BoxFault::ShortSpace => (11, 0),
             BoxFault::Drained => (12, 0),

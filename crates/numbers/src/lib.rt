@@ -8,16 +8,15 @@ ghost use Rattle.numbers.specs.Stored.{number};
 pub fn byte_at(bytes: &[u8], i: usize) -> u8
     ensures { result ≡ slice_index bytes.now i }
 {
-    if i < bytes.len() { bytes[i] } else { 0 }
+    bytes.get(i).copied().unwrap_or(0)
 }
 
 // The number whose two bytes begin at `i`; a byte past the end counts as 0.
 pub fn number_at(bytes: &[u8], i: usize) -> u16
     ensures { result ≡ number bytes.now i }
 {
-    let n = bytes.len();
-    if n >= 2 && i <= n - 2 {
-        return u16::from(bytes[i]) + 256 * u16::from(bytes[i + 1]);
+    match bytes.get(i..) {
+        Some([low, high, ..]) => u16::from_le_bytes([*low, *high]),
+        _ => u16::from(byte_at(bytes, i)),
     }
-    u16::from(byte_at(bytes, i))
 }

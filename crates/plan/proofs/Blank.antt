@@ -26,7 +26,7 @@ blanks_match_nothing l w a b =
     )
 
 -- what two ports tell of their connection
-pub connected_is : (a b : Bool) (f o g h : Option Port) (p q : Port) → ◌≡◌ {A = Result (Option Port) PlanFault} (Ok f) (told a g) → ◌≡◌ {A = Result (Option Port) PlanFault} (Ok o) (told b h) → f ≡ Some q → ◌≡◌ {A = Result Bool PlanFault} (Ok (leads_to (Some q) p)) (told (a && b) (leads_to g p))
-connected_is true true f o g h p q d e k = let z : Some q ≡ g = cc in ap (λ x. Ok (leads_to x p)) z
-connected_is true false f o g h p q d e k = cc
-connected_is false b f o g h p q d e k = cc
+pub connected_is : (a b : Bool) (f g o h : Option Port) (p : Port) → ◌≡◌ {A = Result (Option Port) PlanFault} (Ok f) (told a g) → ◌≡◌ {A = Result (Option Port) PlanFault} (Ok o) (told b h) → ◌≡◌ {A = Result Bool PlanFault} (Ok (leads_to f p)) (told (a && b) (leads_to g p))
+connected_is true true f g o h p d e = let z : f ≡ g = cc in ap (λ x. Ok (leads_to x p)) z
+connected_is true false f g o h p d e = cc
+connected_is false b f g o h p d e = cc

@@ -4,6 +4,9 @@ use Rattle.std.proofs.lemmas.Bool.{ltb-true, eqb-true, eq-eqb}
 use Rattle.plan.specs.declared.parts.Side.{Side}
 use Rattle.plan.specs.declared.parts.Side.TheVariants.{West, East, Branch}
 use Rattle.plan.specs.declared.parts.Port.{Port}
+use Rattle.std.specs.Option.{option_eq}
+use Rattle.plan.specs.contracts.parts.SidePartialEq.TheImpl as side
+use Rattle.plan.specs.contracts.parts.PortPartialEq.TheImpl as port
 use Rattle.plan.specs.Layout.{Layout, Lawful, is_port, same_side, same_port, leads_to}
 
 pub both : (a b : Bool) → (a && b) ≡ true → (a ≡ true) × (b ≡ true)
@@ -56,3 +59,22 @@ far_port l w p q h = w.ports q p (w.both_ways p q h)
 
 pub far_below : (l : Layout) → Lawful l → (p q : Port) → l.far p ≡ Some q → q.component < l.count
 far_below l w p q h = port_below l q (far_port l w p q h)
+
+-- what `==` answers of two ports
+sides_equal : (a b : Side) → side.ghosts.eq a b ≡ same_side a b
+sides_equal West West = refl
+sides_equal West East = refl
+sides_equal West Branch = refl
+sides_equal East West = refl
+sides_equal East East = refl
+sides_equal East Branch = refl
+sides_equal Branch West = refl
+sides_equal Branch East = refl
+sides_equal Branch Branch = refl
+
+pub ports_equal : (p q : Port) → port.ghosts.eq p q ≡ same_port p q
+ports_equal p q = ap (λ s. eqb p.component q.component && s) (sides_equal p.side q.side)
+
+pub far_equal : (o : Option Port) (p : Port) → option_eq port.ghosts.eq o (Some p) ≡ leads_to o p
+far_equal None p = refl
+far_equal (Some q) p = ports_equal q p

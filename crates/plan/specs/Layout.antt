@@ -1,5 +1,5 @@
 -- What a station plan says, the laws that it keeps, and what each of its four tellings answers.
-use Rattle.std.specs.Prelude.{◌≡◌, ℕ, ◌<◌, ◌≤◌, Bool, true, false, cond, ◌&&◌, Some, None, Ok, Err, Option, Result, ◌==◌, ◌≢◌, nat_lt}
+use Rattle.std.specs.Prelude.{◌≡◌, ℕ, ◌<◌, ◌≤◌, Bool, true, false, cond, not, ◌&&◌, Some, None, Ok, Err, Option, Result, ◌==◌, ◌≢◌, nat_lt}
 use Rattle.fault.specs.declared.kinds.PlanFault.{PlanFault}
 use Rattle.fault.specs.declared.kinds.PlanFault.TheVariants.{NoSuchPart}
 use Rattle.plan.specs.declared.parts.Direction.{Direction}
@@ -32,6 +32,10 @@ abbrev pub is_switch : Kind → Bool
 is_switch (Signal d) = false
 is_switch (Switch d) = true
 is_switch Straight = false
+
+-- the port at a side of a component
+abbrev pub port : ℕ → Side → Port
+port c d = record { component = c; side = d }
 
 -- every component has a west and an east port, and a switch has a branch
 abbrev pub has_side : Kind → Side → Bool
@@ -74,6 +78,16 @@ told_section l c = told (nat_lt c l.count && is_switch (l.kind c)) (l.section c)
 
 abbrev pub told_far : Layout → Port → Result (Option Port) PlanFault
 told_far l p = told (is_port l p) (l.far p)
+
+abbrev pub same_direction : Direction → Direction → Bool
+same_direction East East = true
+same_direction East West = false
+same_direction West East = false
+same_direction West West = true
+
+-- the two ports face opposite ways and belong to different components
+abbrev pub opposed : Layout → Port → Port → Bool
+opposed l p q = not (same_direction (faces l p) (faces l q)) && not (p.component == q.component)
 
 abbrev pub same_side : Side → Side → Bool
 same_side WestSide WestSide = true

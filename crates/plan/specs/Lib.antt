@@ -1,2 +1,4 @@
 pub mod Layout
 pub mod Blanks
+pub mod Letters
+pub mod Names

@@ -3,4 +3,7 @@
 
 pub mod connection;
 pub mod interface;
+pub mod letters;
+pub mod naming;
 pub mod parts;
+pub mod sides;

@@ -4,6 +4,10 @@ pub enum Direction {
     West,
 }
 
+// A byte that is no direction's letter.
+#[derive(Clone, Copy, PartialEq, Eq, Debug)]
+pub struct WrongLetter;
+
 // A signal guards trains that travel its direction; a switch's branch faces its direction.
 #[derive(Clone, Copy, PartialEq, Eq, Debug)]
 pub enum Kind {

@@ -1,6 +1,7 @@
 -- What bytes, words and entries have to do with each other.
-use Rattle.std.proofs.Common.{◌≡◌, ℕ, zero, suc, ◌+◌, ◌*◌, ◌/◌, ◌%◌, ◌<◌, ◌≤◌, Bool, true, false, ◌&&◌, eqb, ltb, leb, List, [], ◌∷◌, ◌++◌, length, get_or, drop, sym, refl, ap, ◌∙◌, ⊎_elim, arith}
-use Rattle.std.proofs.lemmas.List.{append_assoc, append-nil, at_drop_more, drop_all, drop_more, get_or-append-add, ext_get_or}
+use Rattle.std.proofs.Common.{◌≡◌, ℕ, zero, suc, ◌+◌, ◌*◌, ◌/◌, ◌%◌, ◌<◌, ◌≤◌, Bool, true, false, ◌&&◌, eqb, ltb, leb, List, [], ◌∷◌, ◌++◌, length, get_or, take, drop, map, sym, refl, ap, ◌∙◌, ⊎_elim, arith}
+use Rattle.std.specs.Simd.{first_chunks}
+use Rattle.std.proofs.lemmas.List.{append_assoc, append-nil, at_drop_more, drop_all, drop_more, drop-drop, get_or-append-add, get_or-drop, get_or-map, get_or-take, ext_get_or}
 use Rattle.std.proofs.lemmas.Bool.{and_from, and_parts, cases_Bool, eq-eqb, eqb-true, le-leb, leb-true, ltb-true}
 use Rattle.numbers.specs.Stored.{number, word}
 use Rattle.row.specs.Row.{entry_ok, all_ok, is_entries, words, bytes_of, numbers_from, entries_of, is_row}
@@ -172,3 +173,22 @@ row_parts s h =
 pub no_row : (s : List ℕ) → (length s ≡ 2 + 2 * number s 0 → 2 ≤ number s 0 → number s 0 ≤ 512 → ⊥) → is_row s ≡ false
 no_row s h =
     ⊎_elim (λ (t : is_row s ≡ true). let p = row_parts s t in absurd (h p.0 p.1 p.2)) (λ f. f) (cases_Bool (is_row s))
+
+-- the numbers behind the count, as pairs of bytes
+pub pairs_numbers : (s : List ℕ) (p k : ℕ) → p + 2 * k ≤ length s → map (λ pair. number pair 0) (first_chunks 2 k (drop p s)) ≡ numbers_from s p k
+unfolding numbers_from
+pairs_numbers s p zero h = refl
+pairs_numbers s p (suc k) h =
+    let q : p + 0 ≡ p = omega arith in
+    let low = get_or-take 2 (drop p s) 0 0 (omega arith) ∙ get_or-drop p s 0 0 ∙ ap (λ k. get_or s k 0) q in
+    let high = get_or-take 2 (drop p s) 1 0 (omega arith) ∙ get_or-drop p s 1 0 in
+    let here : number (take 2 (drop p s)) 0 ≡ number s p = λ i. low i + 256 * high i in
+    let rest = ap (λ d. map (λ pair. number pair 0) (first_chunks 2 k d)) (drop-drop 2 p s) ∙ pairs_numbers s (p + 2) k (omega arith) in
+    λ i. here i ∷ rest i
+
+pub pair_at : (s : List ℕ) (pairs : List (List ℕ)) (k i : ℕ) → map (λ pair. number pair 0) pairs ≡ numbers_from s 2 k → i < length pairs → i < k →
+    get_or (get_or pairs i []) 0 0 + get_or (get_or pairs i []) 1 0 * 256 ≡ number s (2 + 2 * i)
+pair_at s pairs k i all h l =
+    let here = get_or-map (λ pair. number pair 0) pairs i [] 0 h in
+    let there = ap (λ xs. get_or xs i 0) all ∙ number_from s 2 k i l in
+    omega arith

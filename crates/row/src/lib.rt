@@ -2,6 +2,7 @@
 #![tactic(auto)]
 
 pub mod entries;
+pub mod entry;
 pub mod reading;
 pub mod shape;
 pub mod writing;

@@ -5,9 +5,8 @@ ghost use Rattle.row.specs.Row.{is_row, entries_of};
 ghost use Rattle.row.specs.View.{entries};
 
 use crate::entries::Entries;
-use crate::shape::{entry_count, is_row};
+use crate::shape::{is_row, pairs};
 use fault::kinds::BoxFault;
-use numbers::number_at;
 
 // The entries of a row; written back they are the same bytes.
 pub fn read_row(bytes: &[u8]) -> Result<Entries, BoxFault>
@@ -18,8 +17,8 @@ pub fn read_row(bytes: &[u8]) -> Result<Entries, BoxFault>
         return Err(BoxFault::NotARow);
     }
     let mut list = Entries::new();
-    for i in 0..entry_count(bytes) {
-        let _ = list.push(number_at(bytes, 2 + 2 * i));
+    for pair in pairs(bytes) {
+        let _ = list.push(u16::from_le_bytes(*pair));
     }
     Ok(list)
 }

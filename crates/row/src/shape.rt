@@ -1,6 +1,6 @@
-ghost use Rattle.std.specs.Prelude.{◌≡◌, ◌+◌, ◌*◌, ◌<◌, length};
+ghost use Rattle.std.specs.Prelude.{◌≡◌, ◌+◌, ◌-◌, ◌*◌, ◌/◌, ◌<◌, length, map};
 ghost use Rattle.numbers.specs.Stored.{number};
-ghost use Rattle.row.specs.Row.{entry_ok, is_entries, is_row};
+ghost use Rattle.row.specs.Row.{entry_ok, is_entries, is_row, numbers_from};
 
 use numbers::number_at;
 
@@ -44,12 +44,15 @@ pub fn entry(bytes: &[u8], i: usize) -> u16
     number_at(bytes, 2 + 2 * i)
 }
 
-// The entry `i` of bytes that are long enough.
-fn known_entry(bytes: &[u8], i: usize) -> u16
-    requires { 3 + 2 * i < length bytes.now }
-    ensures { result ≡ number bytes.now (2 + 2 * i) }
+// The numbers behind the count, as two bytes each; an odd byte at the end is none.
+pub fn pairs(bytes: &[u8]) -> &[[u8; 2]]
+    ensures count { length result.now ≡ (length bytes.now - 2) / 2 }
+    ensures numbers { map (λ pair. number pair 0) result.now ≡ numbers_from bytes.now 2 ((length bytes.now - 2) / 2) }
 {
-    u16::from(bytes[2 + 2 * i]) + 256 * u16::from(bytes[3 + 2 * i])
+    match bytes.get(2..) {
+        Some(rest) => rest.as_chunks().0,
+        None => &[],
+    }
 }
 
 // Whether the bytes have the shape of a row.
@@ -61,8 +64,8 @@ pub fn is_row(bytes: &[u8]) -> bool
         return false;
     }
     let mut good = true;
-    for i in 0..count {
-        good &= is_entry(known_entry(bytes, i));
+    for pair in pairs(bytes) {
+        good &= is_entry(u16::from_le_bytes(*pair));
     }
     good
 }

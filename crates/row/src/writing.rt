@@ -12,8 +12,9 @@ fn put_word(space: &mut [u8], at: usize, n: u16)
     requires { at + 2 ≤ length space.old }
     ensures { space.new ≡ put space.old at (word n) }
 {
-    space[at] = (n % 256) as u8;
-    space[at + 1] = (n / 256) as u8;
+    let [low, high] = n.to_le_bytes();
+    space[at] = low;
+    space[at + 1] = high;
 }
 
 // Writes the bytes of the row at the front of the space and answers how many they are.

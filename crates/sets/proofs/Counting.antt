@@ -1,20 +1,10 @@
 -- The ones of the intersection of two words, counted and summed.
-use Rattle.std.proofs.Common.{◌≡◌, ℕ, zero, suc, ◌+◌, ◌*◌, ◌/◌, ◌%◌, ◌^◌, ◌<◌, ◌≤◌, min, List, get_or, sym, refl, ap, ◌∙◌, pow-suc, arith}
-use lib.Bits.{bit_and, and_shr, and_step}
+use Rattle.std.proofs.Common.{◌≡◌, ℕ, zero, suc, ◌+◌, ◌*◌, ◌/◌, ◌^◌, ◌<◌, ◌≤◌, min, List, get_or, sym, refl, ap, ◌∙◌, pow-suc, arith}
+use lib.Bits.{bit_and}
 use lib.Count.{ones, ones_step, ones-le}
-use Rattle.std.proofs.lemmas.Nat.{shr-shr, div-mul-add, mod-mul-add}
+use Rattle.std.proofs.lemmas.Nat.{div-mul-add, mod-mul-add}
+use Rattle.std.proofs.lemmas.Nat.Bits.{bit_at-suc, bit_at_and}
 use Rattle.sets.specs.Members.{bit, in_words, sum_below}
-
--- bit j + 1 of n is bit j of its half
-pub bit_suc : (n j : ℕ) → bit n (suc j) ≡ bit (n / 2) j
-bit_suc n j =
-    let e : suc j ≡ 1 + j = omega arith in
-    ap (λ m. n / 2 ^ m % 2) e ∙ ap (λ m. m % 2) (sym (shr-shr n 1 j))
-
-bit-bit_and : (a b j : ℕ) → bit (bit_and a b) j ≡ min (bit a j) (bit b j)
-bit-bit_and a b j =
-    let s = and_step (a / 2 ^ j) (b / 2 ^ j) in
-    ap (λ m. m % 2) (and_shr a b j) ∙ omega arith
 
 sum_front : (f : ℕ → ℕ) (n : ℕ) → sum_below f (suc n) ≡ f 0 + sum_below (λ j. f (suc j)) n
 unfolding sum_below
@@ -53,7 +43,7 @@ ones_sum (suc w) n h =
     let i = ones_sum w (n / 2) (half_lt w n h) in
     let s = ones_step n in
     let f = sum_front (bit n) w in
-    let q = sum_same (λ j. bit n (suc j)) (bit (n / 2)) w (λ k l. bit_suc n k) in
+    let q = sum_same (λ j. bit n (suc j)) (bit (n / 2)) w (λ k l. bit_at-suc n k) in
     omega arith
 
 in_word : (ws : List ℕ) (i j : ℕ) → j < 64 → in_words ws (i * 64 + j) ≡ bit (get_or ws i 0) j
@@ -71,6 +61,6 @@ pub count_more : (a b : List ℕ) (i : ℕ) → bit_and (get_or a i 0) (get_or b
 count_more a b i h =
     let e : (i + 1) * 64 ≡ i * 64 + 64 = omega arith in
     let w = bit_and (get_or a i 0) (get_or b i 0) in
-    let s = sum_same (λ j. both a b (i * 64 + j)) (bit w) 64 (λ j l. rw (in_word a i j l, in_word b i j l) (sym (bit-bit_and (get_or a i 0) (get_or b i 0) j))) in
+    let s = sum_same (λ j. both a b (i * 64 + j)) (bit w) 64 (λ j l. rw (in_word a i j l, in_word b i j l) (sym (bit_at_and (get_or a i 0) (get_or b i 0) j))) in
     let o = ones_sum 64 w h in
     ap (sum_below (both a b)) e ∙ sum_plus (both a b) (i * 64) 64 ∙ ap (λ m. sum_below (both a b) (i * 64) + m) (s ∙ sym o)

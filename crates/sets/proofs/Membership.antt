@@ -1,10 +1,11 @@
 -- Membership is 0 or 1, and 0 from 512 on.
-use Rattle.std.proofs.Common.{◌≡◌, ℕ, ◌+◌, ◌-◌, ◌*◌, ◌/◌, ◌%◌, ◌<◌, ◌≤◌, false, eqb, get_or, replicate, sym, refl, ap, ◌∙◌, ⊎_elim, arith}
+use Rattle.std.proofs.Common.{◌≡◌, ℕ, ◌+◌, ◌-◌, ◌*◌, ◌/◌, ◌%◌, ◌^◌, ◌<◌, ◌≤◌, ◌≢◌, w64, false, eqb, get_or, replicate, sym, refl, ap, ◌∙◌, ⊎_elim, arith}
 use Rattle.std.proofs.lemmas.List.{get_or_past, get_or-replicate, length-replicate}
 use Rattle.std.proofs.lemmas.Bool.{cases_lt, cases_eq, eq-eqb, ne_eqb, eqb-false, lt-ltb}
 use Rattle.sets.specs.declared.set.ComponentSet.{ComponentSet}
 use Rattle.sets.specs.Members.{has, bit, joined, left}
-use Rattle.sets.proofs.Flipping.{bit_zero}
+use Rattle.std.proofs.lemmas.Nat.Bits.{bit_at-zero, bit_at-trailing_zeros}
+use Rattle.std.specs.Int.{trailing_zeros}
 
 pub has_low : (s : ComponentSet) (c : ℕ) → has s c ≤ 1
 unfolding has
@@ -19,13 +20,13 @@ zeros n i =
 
 pub none_in : (s : ComponentSet) → s.words ≡ replicate 8 0 → (c : ℕ) → has s c ≡ 0
 unfolding has
-none_in s e c = ap (λ ws. bit (get_or ws (c / 64) 0) (c % 64)) e ∙ ap (λ w. bit w (c % 64)) (zeros 8 (c / 64)) ∙ bit_zero (c % 64)
+none_in s e c = ap (λ ws. bit (get_or ws (c / 64) 0) (c % 64)) e ∙ ap (λ w. bit w (c % 64)) (zeros 8 (c / 64)) ∙ bit_at-zero (c % 64)
 
 pub has_past : (s : ComponentSet) (c : ℕ) → 512 ≤ c → has s c ≡ 0
 unfolding has
 has_past s c h =
     let e = get_or_past s.words (c / 64) 0 (omega (arith, s.eight)) in
-    ap (λ w. bit w (c % 64)) e ∙ bit_zero (c % 64)
+    ap (λ w. bit w (c % 64)) e ∙ bit_at-zero (c % 64)
 
 pub not_in : (s : ComponentSet) (c : ℕ) → eqb (has s c) 1 ≡ false → has s c ≡ 0
 not_in s c h = let low = has_low s c in let n = eqb-false (has s c) 1 h in omega arith
@@ -55,12 +56,30 @@ pub word_none : (s : ComponentSet) (i c : ℕ) → get_or s.words i 0 ≡ 0 → 
 unfolding has
 word_none s i c h low high =
     let e : c / 64 ≡ i = omega arith in
-    ap (λ k. bit (get_or s.words k 0) (c % 64)) e ∙ ap (λ w. bit w (c % 64)) h ∙ bit_zero (c % 64)
+    ap (λ k. bit (get_or s.words k 0) (c % 64)) e ∙ ap (λ w. bit w (c % 64)) h ∙ bit_at-zero (c % 64)
 
-pub within_word : (s : ComponentSet) (i c : ℕ) → ((j : ℕ) → j < 64 → has s (64 * i + j) ≡ 0) → 64 * i ≤ c → c < 64 * (i + 1) → has s c ≡ 0
-within_word s i c h low high =
-    let e : c ≡ 64 * i + (c - 64 * i) = omega arith in
-    ap (has s) e ∙ h (c - 64 * i) (omega arith)
+-- the first bit that is one, of the first word that has one
+pub first_in_word : (s : ComponentSet) (i : ℕ) → i < 8 → get_or s.words i 0 < 2 ^ 64 → get_or s.words i 0 ≢ 0 → ((c : ℕ) → c < 64 * i → has s c ≡ 0) →
+    let c = 64 * i + trailing_zeros w64 (get_or s.words i 0) in (c < 512) × (has s c ≡ 1) × ((k : ℕ) → k < c → has s k ≡ 0)
+unfolding has
+first_in_word s i h fits some before =
+    let w = get_or s.words i 0 in
+    let t = trailing_zeros w64 w in
+    let f = bit_at-trailing_zeros w64 w (omega arith) fits in
+    let here : (k : ℕ) → 64 * i ≤ k → k < 64 * (i + 1) → has s k ≡ bit w (k - 64 * i) =
+    λ k low high.
+    let q : k / 64 ≡ i = omega arith in
+    let r : k % 64 ≡ k - 64 * i = omega arith in
+    ap (λ n. bit (get_or s.words n 0) (k % 64)) q ∙ ap (bit w) r in
+    let d : 64 * i + t - 64 * i ≡ t = omega arith in (
+      omega arith,
+      here (64 * i + t) (omega arith) (omega arith) ∙ ap (bit w) d ∙ f.1,
+      λ k l.
+          ⊎_elim
+          (λ (o : k < 64 * i). before k o)
+          (λ (o : 64 * i ≤ k). here k o (omega arith) ∙ f.2 (k - 64 * i) (omega arith))
+          (cases_lt k (64 * i)),
+    )
 
 pub below_words : (s : ComponentSet) (i : ℕ) → ((c : ℕ) → c < 64 * i → has s c ≡ 0) → ((c : ℕ) → 64 * i ≤ c → c < 64 * (i + 1) → has s c ≡ 0) → (c : ℕ) → c < 64 * (i + 1) → has s c ≡ 0
 below_words s i before here c h = ⊎_elim (λ k. before c k) (λ k. here c k h) (cases_lt c (64 * i))

@@ -46,19 +46,14 @@ impl Entries {
     pub fn pop(&mut self) -> Option<u16>
         ensures { MatchOption result ((entries self.old ≡ []) × (self.new ≡ self.old)) (λ e. entries self.old ≡ entries self.new ++ e ∷ []) }
     {
-        if self.len == 0 {
-            return None;
-        }
+        let last = self.last()?;
         self.len -= 1;
-        Some(self.cells[self.len])
+        Some(last)
     }
 
     pub fn last(&self) -> Option<u16>
         ensures { MatchOption result (length (entries self.now) ≡ 0) (λ e. (0 < length (entries self.now)) × (e ≡ slice_index (entries self.now) (length (entries self.now) - 1))) }
     {
-        if self.len == 0 {
-            return None;
-        }
-        Some(self.cells[self.len - 1])
+        self.as_slice().last().copied()
     }
 }

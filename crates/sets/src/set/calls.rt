@@ -42,11 +42,9 @@ impl ComponentSet {
     pub fn first(&self) -> Option<u16>
         ensures { MatchOption result ((c : ℕ) → has self.now c ≡ 0) (λ c. (c < 512) × (has self.now c ≡ 1) × ((k : ℕ) → k < c → has self.now k ≡ 0)) }
     {
-        for i in 0..8 {
-            if self.words[i as usize] != 0 {
-                if let Some(component) = self.first_of_word(i) {
-                    return Some(component);
-                }
+        for (i, word) in self.words.iter().enumerate() {
+            if *word != 0 {
+                return Some(64 * i as u16 + word.trailing_zeros() as u16);
             }
         }
         None
@@ -57,22 +55,10 @@ impl ComponentSet {
         ensures { result ≡ in_both self.now other.now }
     {
         let mut count = 0;
-        for k in 0..8 {
-            count += (self.words[k] & other.words[k]).count_ones() as u16;
+        for (word, others) in self.words.iter().zip(&other.words) {
+            count += (word & others).count_ones() as u16;
         }
         count
-    }
-
-    fn first_of_word(&self, i: u16) -> Option<u16>
-        requires { i < 8 }
-        ensures { MatchOption result ((j : ℕ) → j < 64 → has self.now (64 * i + j) ≡ 0) (λ c. (c < 512) × (has self.now c ≡ 1) × (64 * i ≤ c) × ((j : ℕ) → 64 * i + j < c → has self.now (64 * i + j) ≡ 0)) }
-    {
-        for j in 0..64 {
-            if self.contains(64 * i + j) {
-                return Some(64 * i + j);
-            }
-        }
-        None
     }
 
     fn flip(&mut self, component: u16)

@@ -1,5 +1,6 @@
 use Rattle.std.proofs.Common.{Ok, ap, ◌∙◌, rules}
 use Rattle.plan.proofs.Blank.{blanks_match_nothing, connected_is}
+use Rattle.plan.proofs.Ports.{far_equal}
 use Rattle.plan.proofs.connection.connected.Goals as goal
 
 pub returns-in_err-far : goal.returns-in_err-far
@@ -8,13 +9,10 @@ returns-in_err-far g c = record { told = search rules; blanks = blanks_match_not
 pub returns-in_err-far-2 : goal.returns-in_err-far-2
 returns-in_err-far-2 g c = record { told = search rules; blanks = blanks_match_nothing }
 
-pub returns-in_default : goal.returns-in_default
-returns-in_default g c = record { told = search rules; blanks = blanks_match_nothing }
-
 pub returns : goal.returns
 returns g c = record {
   told =
-      ap Ok c.is_same.ensures
-      ∙ connected_is _ _ _ _ _ _ c.args.b c.in-Some.port c.in_ok-far.ensures c.in_ok-far-2.ensures c.in-Some.is;
+      ap Ok (c.eq.ensures ∙ far_equal c.in_ok-far.far c.args.b)
+      ∙ connected_is _ _ _ _ _ _ c.args.b c.in_ok-far.ensures c.in_ok-far-2.ensures;
   blanks = blanks_match_nothing;
 }
