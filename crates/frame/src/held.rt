@@ -3,12 +3,13 @@ ghost use Rattle.frame.specs.Calls.{OnRow, Held, Conflicts};
 ghost use Rattle.frame.specs.View.{open_rows};
 
 use crate::open_route::OpenRoute;
+use row::entry;
 
 // Whether the component is on the row.
 fn is_on(row: &[u16], component: u16) -> bool
     ensures { MatchBool result (OnRow row.now component) (OnRow row.now component → ⊥) }
 {
-    row.iter().any(|e| *e / 4 == component)
+    row.iter().any(|e| entry::component(*e) == component)
 }
 
 // Whether the component is on one of the open routes.
@@ -22,5 +23,5 @@ pub(crate) fn is_held(routes: &[OpenRoute], component: u16) -> bool
 pub(crate) fn conflicts(routes: &[OpenRoute], row: &[u16]) -> bool
     ensures { MatchBool result (Conflicts (open_rows routes.now) row.now) (Conflicts (open_rows routes.now) row.now → ⊥) }
 {
-    row.iter().any(|e| is_held(routes, *e / 4))
+    row.iter().any(|e| is_held(routes, entry::component(*e)))
 }

@@ -1,4 +1,4 @@
-ghost use Rattle.std.specs.Prelude.{◌≡◌};
+ghost use Rattle.std.specs.Prelude.{◌≡◌, []};
 ghost use Rattle.row.specs.View.{entries};
 
 use row::entries::Entries;
@@ -12,6 +12,8 @@ pub struct OpenRoute {
 
 // What the frame's free places hold; no slip has the serial 0.
 impl Default for OpenRoute {
+    ghost is_default = { λ r. (r.serial ≡ 0) × (entries r.row ≡ []) };
+
     fn default() -> OpenRoute {
         OpenRoute {
             serial: 0,

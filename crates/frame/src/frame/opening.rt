@@ -16,6 +16,7 @@ use fault::kinds::BoxFault;
 use judging::judgement::judge;
 use plan::interface::Plan;
 use row::entries::Entries;
+use row::entry;
 use row::reading::read_row;
 
 // How many slips a frame gives.
@@ -84,18 +85,15 @@ impl Frame {
     fn is_against(&self, e: u16) -> bool
         ensures { MatchBool result (Against ((view self.now).position (e / 4)) (e % 4)) (Against ((view self.now).position (e / 4)) (e % 4) → ⊥) }
     {
-        if self.reversed.contains(e / 4) {
-            e % 4 == 1
-        } else {
-            e % 4 == 2
-        }
+        entry::lie(e).is_some_and(|wanted| wanted != self.lie(entry::component(e)))
     }
 
     // Whether the row runs over an occupied section.
     fn runs_occupied<P: Plan>(&self, plan: &P, row: &[u16]) -> bool
         ensures { MatchBool result (RunsOccupied (P.layout plan.now) (view self.now) row.now) (RunsOccupied (P.layout plan.now) (view self.now) row.now → ⊥) }
     {
-        row.iter().any(|e| self.is_on_occupied(plan, *e / 4))
+        row.iter()
+            .any(|e| self.is_on_occupied(plan, entry::component(*e)))
     }
 
     fn is_on_occupied<P: Plan>(&self, plan: &P, component: u16) -> bool
