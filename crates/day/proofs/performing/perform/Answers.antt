@@ -1,6 +1,5 @@
-use Rattle.std.proofs.Common.{◌≡◌, length, refl, sym, ◌∙◌, arith}
+use Rattle.std.proofs.Common.{◌≡◌, length, refl, ◌∙◌, arith}
 use Rattle.std.proofs.lemmas.List.{with_items_is}
-use Rattle.signal_box.specs.Journal.Event.{Turned}
 use Rattle.day.proofs.Steps.{performs}
 use Rattle.day.proofs.performing.perform.Goals as goal
 
