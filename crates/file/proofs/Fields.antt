@@ -5,10 +5,10 @@ use Rattle.numbers.specs.Stored.{number}
 use Rattle.plan.specs.declared.parts.Side.{Side}
 use Rattle.plan.specs.declared.parts.Side.TheVariants.{West, East, Branch}
 use Rattle.plan.specs.declared.parts.Port.{Port}
-use Rattle.plan.specs.Layout.{is_switch, has_side}
+use Rattle.plan.specs.Layout.{is_switch, has_side, port, opposed}
 use Rattle.file.specs.Checks.{check, first_failing}
-use Rattle.file.specs.Contents.{port, section_count, components, kind_of, section_of, port_code, port_of, stored, port_in, layout_of}
-use Rattle.file.specs.Readings.{opposed, far_checks, blank_check, field_checks, port_checks, switch_checks, component_checks, record_at, section_check, component_fields, section_fields, second_reading}
+use Rattle.file.specs.Contents.{section_count, components, kind_of, section_of, port_code, port_of, stored, port_in, layout_of}
+use Rattle.file.specs.Readings.{far_checks, blank_check, field_checks, port_checks, switch_checks, component_checks, record_at, section_check, component_fields, section_fields, second_reading}
 use Rattle.file.specs.Members.{members}
 use Rattle.file.proofs.Checks.{Passed, passed-++, parts-++, head_passed, passed_head, each_all, all_each}
 

@@ -9,11 +9,11 @@ use Rattle.plan.specs.declared.parts.Kind.TheVariants.{Signal, Switch, Straight}
 use Rattle.plan.specs.declared.parts.Side.{Side}
 use Rattle.plan.specs.declared.parts.Side.TheVariants.{West as WestSide, East as EastSide, Branch}
 use Rattle.plan.specs.declared.parts.Port.{Port}
-use Rattle.plan.specs.Layout.{Layout, Lawful, is_switch, is_port, has_side, side_faces, faces, opposite}
+use Rattle.plan.specs.Layout.{Layout, Lawful, is_switch, is_port, has_side, side_faces, faces, opposite, port, same_direction}
 use Rattle.plan.proofs.Ports.{far_port}
-use Rattle.file.specs.Contents.{port, signal_count, switches_at, switch_count, straights_at, straight_count, components, kind_of, section_of, direction_at, port_of, field_at, stored, port_in, layout_of}
+use Rattle.plan.specs.Letters.{direction_at, is_letter}
+use Rattle.file.specs.Contents.{signal_count, switches_at, switch_count, straights_at, straight_count, components, kind_of, section_of, port_of, field_at, stored, port_in, layout_of}
 use Rattle.file.specs.Members.{tally, belongs, members}
-use Rattle.file.specs.Readings.{is_letter, same_direction}
 use Rattle.file.specs.FileOf.{far_code, letter_of, FileWith, Connected}
 use Rattle.file.proofs.Tally.{tally_same}
 use Rattle.file.proofs.Whole.{Whole}

@@ -2,7 +2,8 @@
 use Rattle.std.proofs.Common.{◌≡◌, ℕ, ◌+◌, ◌-◌, ◌*◌, ◌<◌, List, get_or, ap, ◌∙◌, arith}
 use Rattle.std.proofs.lemmas.Bool.{lt-ltb, le-ltb, cond-true, cond-false}
 use Rattle.plan.specs.declared.parts.Kind.TheVariants.{Signal, Switch, Straight}
-use Rattle.file.specs.Contents.{signal_count, switches_at, switch_count, straights_at, place, kind_of, direction_at}
+use Rattle.plan.specs.Letters.{direction_at}
+use Rattle.file.specs.Contents.{signal_count, switches_at, switch_count, straights_at, place, kind_of}
 
 pub signal_place : (s : List ℕ) (i : ℕ) → i < signal_count s → place s i ≡ 2 + 5 * i
 signal_place s i h = cond-true _ _ _ (lt-ltb i (signal_count s) h)

@@ -4,7 +4,8 @@ use Rattle.std.proofs.lemmas.Bool.{eqb-true, eq-eqb, ne_eqb, cond-true, cond-fal
 use Rattle.plan.specs.declared.parts.Side.{Side}
 use Rattle.plan.specs.declared.parts.Side.TheVariants.{West, East, Branch}
 use Rattle.plan.specs.declared.parts.Port.{Port}
-use Rattle.file.specs.Contents.{port, side_number, port_code, port_of}
+use Rattle.plan.specs.Layout.{port}
+use Rattle.file.specs.Contents.{side_number, port_code, port_of}
 use Rattle.file.specs.FileOf.{far_code}
 
 -- the port with a code is the one that has it

@@ -4,9 +4,9 @@ use Rattle.fault.specs.declared.kinds.PlanFault.{PlanFault}
 use Rattle.fault.specs.declared.kinds.PlanFault.TheVariants.{NoSuchPart}
 use Rattle.plan.specs.declared.parts.Side.TheVariants.{West, East, Branch}
 use Rattle.plan.specs.declared.parts.Port.{Port}
-use Rattle.plan.specs.Layout.{is_switch}
+use Rattle.plan.specs.Layout.{is_switch, port}
 use Rattle.file.specs.Checks.{Check, check, first_failing, then}
-use Rattle.file.specs.Contents.{kind_of, section_of, section_count, place, port, port_of, stored}
+use Rattle.file.specs.Contents.{kind_of, section_of, section_count, place, port_of, stored}
 use Rattle.file.specs.Readings.{signal_section, switch_section, straight_section, point_sections, rest, first_reading, blank_check, named_checks, unnamed_checks, far_checks, field_checks, port_checks, switch_checks, component_checks, component_fields, section_fields, second_reading}
 use Rattle.file.proofs.Checks.{failing-++}
 

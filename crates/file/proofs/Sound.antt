@@ -7,9 +7,9 @@ use Rattle.plan.specs.declared.parts.Direction.TheVariants.{East, West}
 use Rattle.plan.specs.declared.parts.Side.{Side}
 use Rattle.plan.specs.declared.parts.Side.TheVariants.{West as WestSide, East as EastSide, Branch}
 use Rattle.plan.specs.declared.parts.Port.{Port}
-use Rattle.plan.specs.Layout.{Lawful, is_switch, has_side, faces, opposite}
-use Rattle.file.specs.Contents.{port, signal_count, switches_at, switch_count, straights_at, straight_count, section_count, components, kind_of, direction_at, port_code, port_of, field_at, stored, port_in, far_of, layout_of}
-use Rattle.file.specs.Readings.{is_letter, same_direction}
+use Rattle.plan.specs.Layout.{Lawful, is_switch, has_side, faces, opposite, port, same_direction}
+use Rattle.plan.specs.Letters.{direction_at, is_letter}
+use Rattle.file.specs.Contents.{signal_count, switches_at, switch_count, straights_at, straight_count, section_count, components, kind_of, port_code, port_of, field_at, stored, port_in, far_of, layout_of}
 use Rattle.file.specs.FileOf.{far_code, letter_of, SignalAt, SwitchAt, StraightAt, Counts, FileWith, Connected, GoodFileOf}
 use Rattle.file.proofs.Whole.{Whole}
 use Rattle.file.proofs.PortCodes.{of_code, code_of}

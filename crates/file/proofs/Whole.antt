@@ -2,10 +2,11 @@
 -- letters are letters.
 use Rattle.std.proofs.Common.{◌≡◌, ℕ, zero, suc, ◌+◌, ◌*◌, ◌<◌, ◌≤◌, true, leb, List, ◌++◌, length, get_or, refl, arith}
 use Rattle.std.proofs.lemmas.Bool.{leb-true, le-leb}
+use Rattle.plan.specs.Letters.{is_letter}
 use Rattle.file.specs.declared.sorts.Sort.{Sort}
 use Rattle.file.specs.declared.sorts.Sort.TheVariants.{Signal, Switch, Straight, PointSection}
 use Rattle.file.specs.Contents.{signal_count, switches_at, switch_count, straights_at, straight_count, sections_at, section_count, end_of, components}
-use Rattle.file.specs.Readings.{size, letter_in, is_letter, letter_checks, nth_record, section_checks, signal_section, switch_section, straight_section, point_sections, rest, first_reading}
+use Rattle.file.specs.Readings.{size, letter_in, letter_checks, nth_record, section_checks, signal_section, switch_section, straight_section, point_sections, rest, first_reading}
 use Rattle.file.proofs.Checks.{Passed, passed-++, parts-++, head_passed, passed_head, each_all, all_each}
 
 pub record Whole (s : List ℕ) : Type 0 where

@@ -1,14 +1,13 @@
 -- What the bytes of a file say: its counts, where its records and fields stand, and the layout.
 use Rattle.std.specs.Prelude.{ℕ, ◌+◌, ◌-◌, ◌*◌, ◌/◌, ◌%◌, Bool, cond, ◌&&◌, List, Some, None, Option, ◌==◌, nat_lt, slice_index}
 use Rattle.numbers.specs.Stored.{number}
-use Rattle.plan.specs.declared.parts.Direction.{Direction}
-use Rattle.plan.specs.declared.parts.Direction.TheVariants.{East, West}
 use Rattle.plan.specs.declared.parts.Kind.{Kind}
 use Rattle.plan.specs.declared.parts.Kind.TheVariants.{Signal, Switch, Straight}
 use Rattle.plan.specs.declared.parts.Side.{Side}
 use Rattle.plan.specs.declared.parts.Side.TheVariants.{West as WestSide, East as EastSide, Branch}
 use Rattle.plan.specs.declared.parts.Port.{Port}
-use Rattle.plan.specs.Layout.{Layout, has_side}
+use Rattle.plan.specs.Layout.{Layout, has_side, port}
+use Rattle.plan.specs.Letters.{direction_at}
 
 -- A count stands before each section.
 unfoldable pub signal_count : List ℕ → ℕ
@@ -45,9 +44,6 @@ place s c =
     (cond (nat_lt c (signal_count s + switch_count s)) (switches_at s + 2 + 9 * (c - signal_count s))
     (straights_at s + 2 + 4 * (c - (signal_count s + switch_count s))))
 
-abbrev pub direction_at : ℕ → Direction
-direction_at b = cond (b == 69) East West
-
 abbrev pub kind_of : List ℕ → ℕ → Kind
 kind_of s c =
     cond (nat_lt c (signal_count s)) (Signal (direction_at (slice_index s (place s c + 4))))
@@ -61,9 +57,6 @@ abbrev pub side_number : Side → ℕ
 side_number WestSide = 0
 side_number EastSide = 1
 side_number Branch = 2
-
-abbrev pub port : ℕ → Side → Port
-port c d = record { component = c; side = d }
 
 abbrev pub port_code : Port → ℕ
 port_code p = 4 * p.component + side_number p.side

@@ -8,8 +8,8 @@ use Rattle.plan.specs.declared.parts.Kind.TheVariants.{Signal, Switch, Straight}
 use Rattle.plan.specs.declared.parts.Side.{Side}
 use Rattle.plan.specs.declared.parts.Side.TheVariants.{West as WestSide, East as EastSide, Branch}
 use Rattle.plan.specs.declared.parts.Port.{Port}
-use Rattle.plan.specs.Layout.{Layout, Lawful, is_switch}
-use Rattle.file.specs.Contents.{port, port_code, layout_of, stored}
+use Rattle.plan.specs.Layout.{Layout, Lawful, is_switch, port}
+use Rattle.file.specs.Contents.{port_code, layout_of, stored}
 use Rattle.file.specs.Members.{members}
 use Rattle.file.specs.Readings.{look}
 

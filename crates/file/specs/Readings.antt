@@ -1,20 +1,19 @@
 -- The two readings of a file, as checks in file order.
-use Rattle.std.specs.Prelude.{ℕ, ◌+◌, ◌*◌, Bool, true, false, cond, not, ◌&&◌, ◌||◌, List, [], ◌++◌, length, Some, None, Ok, Err, Option, Result, ◌==◌, nat_le, nat_lt, slice_index}
+use Rattle.std.specs.Prelude.{ℕ, ◌+◌, ◌*◌, Bool, cond, not, ◌&&◌, List, [], ◌++◌, length, Some, None, Ok, Err, Option, Result, ◌==◌, nat_le, nat_lt, slice_index}
 use Rattle.fault.specs.declared.kinds.FileFault.{FileFault}
 use Rattle.fault.specs.declared.kinds.FileFault.TheVariants.{CutOff, LeftOver, TooMany, WrongLetter}
 use Rattle.fault.specs.declared.kinds.PlanFault.{PlanFault}
 use Rattle.fault.specs.declared.kinds.PlanFault.TheVariants.{File, NoSuchPart, NotOpposed, NotNamedBack, BlankPort, WrongSwitchCount}
 use Rattle.numbers.specs.Stored.{number}
-use Rattle.plan.specs.declared.parts.Direction.{Direction}
-use Rattle.plan.specs.declared.parts.Direction.TheVariants.{East, West}
 use Rattle.plan.specs.declared.parts.Side.TheVariants.{West as WestSide, East as EastSide, Branch}
 use Rattle.plan.specs.declared.parts.Port.{Port}
-use Rattle.plan.specs.Layout.{Layout, is_switch, is_port, faces}
+use Rattle.plan.specs.Layout.{is_switch, is_port, opposed, port}
+use Rattle.plan.specs.Letters.{is_letter}
 use Rattle.file.specs.declared.sorts.Sort.{Sort}
 use Rattle.file.specs.declared.sorts.Sort.TheVariants.{Signal, Switch, Straight, PointSection}
 use Rattle.file.specs.Members.{members}
 use Rattle.file.specs.Checks.{Check, check, first_failing, each, then}
-use Rattle.file.specs.Contents.{signal_count, switches_at, switch_count, straights_at, straight_count, sections_at, section_count, end_of, components, place, kind_of, section_of, port, port_code, port_of, field_at, stored, layout_of}
+use Rattle.file.specs.Contents.{signal_count, switches_at, switch_count, straights_at, straight_count, sections_at, section_count, end_of, components, place, kind_of, section_of, port_code, port_of, field_at, stored, layout_of}
 
 -- First reading: the records of each section and their letters.
 
@@ -30,9 +29,6 @@ letter_in Signal = Some 4
 letter_in Switch = Some 6
 letter_in Straight = None
 letter_in PointSection = None
-
-abbrev pub is_letter : ℕ → Bool
-is_letter b = b == 69 || b == 87
 
 abbrev pub letter_checks : List ℕ → ℕ → Option ℕ → List (Check FileFault)
 letter_checks s at None = []
@@ -72,16 +68,6 @@ first_reading s = signal_section s ++ (switch_section s ++ (straight_section s +
 
 abbrev pub is_blank : ℕ → Bool
 is_blank n = n == 65535
-
-abbrev pub same_direction : Direction → Direction → Bool
-same_direction East East = true
-same_direction East West = false
-same_direction West East = false
-same_direction West West = true
-
--- the two ports face opposite ways and belong to different components
-abbrev pub opposed : Layout → Port → Port → Bool
-opposed l p q = not (same_direction (faces l p) (faces l q)) && not (p.component == q.component)
 
 -- where the field names a port
 abbrev pub named_checks : List ℕ → Port → Port → List (Check PlanFault)

@@ -1,11 +1,12 @@
 ghost use Rattle.std.specs.Prelude.{◌≡◌, ◌+◌, ◌^◌, ◌<◌};
 ghost use Rattle.file.specs.Checks.{first_failing, each};
-ghost use Rattle.file.specs.Readings.{size, letter_in, is_letter, record_checks, nth_record, section_checks, signal_section, switch_section, straight_section, point_sections, rest, first_reading};
+ghost use Rattle.file.specs.Readings.{size, letter_in, record_checks, nth_record, section_checks, signal_section, switch_section, straight_section, point_sections, rest, first_reading};
 
 use crate::contents::Contents;
 use crate::sorts::Sort;
 use fault::kinds::FileFault;
 use numbers::byte_at;
+use plan::parts::{Direction, WrongLetter};
 
 impl Sort {
     fn size(self) -> usize
@@ -31,12 +32,6 @@ impl Sort {
     }
 }
 
-fn is_letter(byte: u8) -> bool
-    ensures { result ≡ is_letter byte }
-{
-    byte == b'E' || byte == b'W'
-}
-
 fn read_record(bytes: &[u8], at: usize, sort: Sort) -> Result<(), FileFault>
     requires { at < 2 ^ 32 }
     ensures { result ≡ first_failing (record_checks bytes.now at sort) }
@@ -47,10 +42,9 @@ fn read_record(bytes: &[u8], at: usize, sort: Sort) -> Result<(), FileFault>
     let Some(letter) = sort.letter() else {
         return Ok(());
     };
-    if is_letter(byte_at(bytes, at + letter)) {
-        Ok(())
-    } else {
-        Err(FileFault::WrongLetter(at + letter))
+    match Direction::try_from(byte_at(bytes, at + letter)) {
+        Ok(_) => Ok(()),
+        Err(WrongLetter) => Err(FileFault::WrongLetter(at + letter)),
     }
 }
 

@@ -2,9 +2,9 @@ ghost use Rattle.std.specs.Prelude.{◌≡◌};
 ghost use Rattle.file.specs.FileOf.{AcceptedExactly, Means};
 ghost use Rattle.file.specs.Readings.{look};
 
+use crate::contents::FirstRead;
 use crate::first::first_reading;
 use crate::reading::contents;
-use crate::second::second_reading;
 use fault::kinds::PlanFault;
 
 // The first fault of a file, if it has one.
@@ -15,5 +15,5 @@ pub fn look_over(bytes: &[u8]) -> Result<(), PlanFault>
 {
     let file = contents(bytes);
     first_reading(&file)?;
-    second_reading(&file)
+    FirstRead { file }.second_reading()
 }

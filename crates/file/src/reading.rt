@@ -1,11 +1,10 @@
 ghost use Rattle.std.specs.Prelude.{◌≡◌};
 ghost use Rattle.file.specs.Contents.{switches_at, straights_at, sections_at, end_of, components, place, kind_of, section_of, port_of, field_at, stored, port_in};
-ghost use Rattle.plan.specs.Layout.{is_switch, has_side};
 
 use crate::codes::{direction_at, port_of, side_number};
 use crate::contents::Contents;
 use numbers::{byte_at, number_at};
-use plan::parts::{Kind, Port, Side};
+use plan::parts::{Kind, Port};
 
 // Reads the four counts, each where those before it put it.
 pub fn contents<'a>(bytes: &'a [u8]) -> Contents<'a>
@@ -24,15 +23,6 @@ pub fn contents<'a>(bytes: &'a [u8]) -> Contents<'a>
         switches,
         straights,
         sections,
-    }
-}
-
-pub(crate) fn is_switch(kind: Kind) -> bool
-    ensures { result ≡ is_switch kind }
-{
-    match kind {
-        Kind::Switch(_) => true,
-        Kind::Signal(_) | Kind::Straight => false,
     }
 }
 
@@ -124,16 +114,8 @@ impl Contents<'_> {
     pub fn is_port(&self, port: Port) -> bool
         ensures { result ≡ port_in self.now.bytes.now port }
     {
-        usize::from(port.component) < self.components() && self.has_side(port)
-    }
-
-    fn has_side(&self, port: Port) -> bool
-        ensures { result ≡ has_side (kind_of self.now.bytes.now port.component) port.side }
-    {
-        match port.side {
-            Side::West | Side::East => true,
-            Side::Branch => is_switch(self.kind(port.component)),
-        }
+        usize::from(port.component) < self.components()
+            && self.kind(port.component).has_side(port.side)
     }
 
     // The port that a port's record names, if its code can be a port's.

@@ -1,34 +1,22 @@
-ghost use Rattle.std.specs.Prelude.{◌≡◌, ◌≤◌};
-ghost use Rattle.plan.specs.Layout.{faces};
+ghost use Rattle.std.specs.Prelude.{◌≡◌};
+ghost use Rattle.plan.specs.Layout.{opposed};
 ghost use Rattle.file.specs.Checks.{first_failing};
-ghost use Rattle.file.specs.Contents.{components, layout_of};
+ghost use Rattle.file.specs.Contents.{layout_of};
 ghost use Rattle.file.specs.Members.{belongs, members};
-ghost use Rattle.file.specs.Readings.{opposed, named_checks, blank_check, field_checks, port_checks, switch_checks, component_checks, component_fields, section_fields, section_check, second_reading};
+ghost use Rattle.file.specs.Readings.{named_checks, blank_check, field_checks, port_checks, switch_checks, component_checks, component_fields, section_fields, section_check, second_reading};
 
-use crate::codes::{BLANK, port_code};
-use crate::contents::Contents;
-use crate::reading::is_switch;
+use crate::codes::BLANK;
+use crate::contents::{Contents, FirstRead};
 use fault::kinds::PlanFault;
 use numbers::number_at;
-use plan::parts::{Direction, Kind, Port, Side};
-
-fn faces(file: &Contents, port: Port) -> Direction
-    ensures { result ≡ faces (layout_of file.now.bytes.now) port }
-{
-    match port.side {
-        Side::West => Direction::West,
-        Side::East => Direction::East,
-        Side::Branch => match file.kind(port.component) {
-            Kind::Signal(direction) | Kind::Switch(direction) => direction,
-            Kind::Straight => Direction::East,
-        },
-    }
-}
+use plan::parts::{Port, Side};
 
 fn is_opposed(file: &Contents, port: Port, other: Port) -> bool
     ensures { result ≡ opposed (layout_of file.now.bytes.now) port other }
 {
-    faces(file, port) != faces(file, other) && port.component != other.component
+    let here = file.kind(port.component).faces(port.side);
+    let there = file.kind(other.component).faces(other.side);
+    here != there && port.component != other.component
 }
 
 // The field of a port, where it names another.
@@ -42,7 +30,7 @@ fn read_named(file: &Contents, port: Port, named: Port) -> Result<(), PlanFault>
     if !is_opposed(file, port, named) {
         return Err(PlanFault::NotOpposed(place));
     }
-    if usize::from(file.stored(named)) == port_code(port) {
+    if file.named(named) == Some(port) {
         Ok(())
     } else {
         Err(PlanFault::NotNamedBack(place))
@@ -52,7 +40,7 @@ fn read_named(file: &Contents, port: Port, named: Port) -> Result<(), PlanFault>
 fn read_blank(file: &Contents, port: Port) -> Result<(), PlanFault>
     ensures { result ≡ first_failing (blank_check file.now.bytes.now port) }
 {
-    if is_switch(file.kind(port.component)) && file.stored(port) == BLANK {
+    if file.kind(port.component).is_switch() && file.stored(port) == BLANK {
         return Err(PlanFault::BlankPort(file.field(port)));
     }
     Ok(())
@@ -79,8 +67,7 @@ fn read_port(file: &Contents, port: Port) -> Result<(), PlanFault>
 fn read_switch(file: &Contents, component: u16) -> Result<(), PlanFault>
     ensures { result ≡ first_failing (switch_checks file.now.bytes.now component) }
 {
-    let side = Side::Branch;
-    read_port(file, Port { component, side })?;
+    read_port(file, Side::Branch.of(component))?;
     if file.section(component) < file.sections {
         Ok(())
     } else {
@@ -91,75 +78,70 @@ fn read_switch(file: &Contents, component: u16) -> Result<(), PlanFault>
 fn read_component(file: &Contents, component: u16) -> Result<(), PlanFault>
     ensures { result ≡ first_failing (component_checks file.now.bytes.now component) }
 {
-    let side = Side::West;
-    read_port(file, Port { component, side })?;
-    let side = Side::East;
-    read_port(file, Port { component, side })?;
-    if is_switch(file.kind(component)) {
+    read_port(file, Side::West.of(component))?;
+    read_port(file, Side::East.of(component))?;
+    if file.kind(component).is_switch() {
         read_switch(file, component)
     } else {
         Ok(())
     }
 }
 
-fn read_components(file: &Contents) -> Result<(), PlanFault>
-    requires { components file.now.bytes.now ≤ 512 }
-    ensures { result ≡ first_failing (component_fields file.now.bytes.now) }
-{
-    for component in 0..file.components() as u16 {
-        read_component(file, component)?;
-    }
-    Ok(())
-}
-
 fn belongs(file: &Contents, section: u16, component: u16) -> bool
     ensures { result ≡ belongs (layout_of file.now.bytes.now) section component }
 {
-    is_switch(file.kind(component)) && file.section(component) == section
+    file.kind(component).is_switch() && file.section(component) == section
 }
 
-// How many switches belong to a point section.
-fn members(file: &Contents, section: u16) -> u16
-    requires { components file.now.bytes.now ≤ 512 }
-    ensures { result ≡ members (layout_of file.now.bytes.now) section }
-{
-    let mut count = 0;
-    for component in 0..file.components() as u16 {
-        if belongs(file, section, component) {
-            count += 1;
+impl FirstRead<'_> {
+    fn read_components(&self) -> Result<(), PlanFault>
+        ensures { result ≡ first_failing (component_fields self.now.file.bytes.now) }
+    {
+        for component in 0..self.file.components() as u16 {
+            read_component(&self.file, component)?;
+        }
+        Ok(())
+    }
+
+    // How many switches belong to a point section.
+    fn members(&self, section: u16) -> u16
+        ensures { result ≡ members (layout_of self.now.file.bytes.now) section }
+    {
+        let mut count = 0;
+        for component in 0..self.file.components() as u16 {
+            if belongs(&self.file, section, component) {
+                count += 1;
+            }
+        }
+        count
+    }
+
+    fn read_section(&self, section: u16) -> Result<(), PlanFault>
+        ensures { result ≡ first_failing (section_check self.now.file.bytes.now section) }
+    {
+        let place = self.file.sections_at() + 2 + 2 * usize::from(section);
+        let count = number_at(self.file.bytes, place);
+        if count != 0 && count == self.members(section) {
+            Ok(())
+        } else {
+            Err(PlanFault::WrongSwitchCount(place))
         }
     }
-    count
-}
 
-fn read_section(file: &Contents, section: u16) -> Result<(), PlanFault>
-    requires { components file.now.bytes.now ≤ 512 }
-    ensures { result ≡ first_failing (section_check file.now.bytes.now section) }
-{
-    let place = file.sections_at() + 2 + 2 * usize::from(section);
-    let count = number_at(file.bytes, place);
-    if count != 0 && count == members(file, section) {
+    fn read_sections(&self) -> Result<(), PlanFault>
+        ensures { result ≡ first_failing (section_fields self.now.file.bytes.now) }
+    {
+        for section in 0..self.file.sections {
+            self.read_section(section)?;
+        }
         Ok(())
-    } else {
-        Err(PlanFault::WrongSwitchCount(place))
     }
-}
 
-fn read_sections(file: &Contents) -> Result<(), PlanFault>
-    requires { components file.now.bytes.now ≤ 512 }
-    ensures { result ≡ first_failing (section_fields file.now.bytes.now) }
-{
-    for section in 0..file.sections {
-        read_section(file, section)?;
+    // Field by field, in the order of the file.
+    pub(crate) fn second_reading(&self) -> Result<(), PlanFault>
+        ensures { result ≡ first_failing (second_reading self.now.file.bytes.now) }
+    {
+        self.read_components()?;
+        self.read_sections()
     }
-    Ok(())
-}
-
-// Field by field, in the order of the file.
-pub(crate) fn second_reading(file: &Contents) -> Result<(), PlanFault>
-    requires { components file.now.bytes.now ≤ 512 }
-    ensures { result ≡ first_failing (second_reading file.now.bytes.now) }
-{
-    read_components(file)?;
-    read_sections(file)
 }

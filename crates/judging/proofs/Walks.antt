@@ -1,5 +1,5 @@
 -- Walking along a row.
-use Rattle.std.proofs.Common.{◌≡◌, ℕ, ◌+◌, ◌-◌, ◌/◌, ◌<◌, List, length, get_or, take, sym, ap, ◌∙◌, subst, arith}
+use Rattle.std.proofs.Common.{◌≡◌, ℕ, suc, ◌+◌, ◌-◌, ◌/◌, ◌<◌, List, ◌∷◌, length, get_or, take, sym, ap, ◌∙◌, subst, arith}
 use Rattle.std.proofs.lemmas.List.{take_more}
 use Rattle.plan.specs.declared.parts.Direction.{Direction}
 use Rattle.plan.specs.declared.parts.Kind.TheVariants.{Signal}
@@ -27,13 +27,23 @@ module _ (l : Layout) (w : Lawful l) (es : List ℕ) where
         gathers_more s s' es i k.1 h (omega arith) inserted,
       )
 
-  module _ (d : Direction) (way : l.kind (get_or es 0 0 / 4) ≡ Signal d) (i : ℕ) (some : 0 < i) (h : i < length es) where
+  module _ (d : Direction) (way : l.kind (get_or es 0 0 / 4) ≡ Signal d) (i : ℕ) (h : i + 1 < length es) (last e : ℕ) (here : last ≡ get_or es i 0) (there : e ≡ get_or es (i + 1) 0) where
     -- the direction of travel is the row's
-    step : Next l (take i es) (get_or es i 0) ≡ Follows l d (get_or es (i - 1) 0) (get_or es i 0)
-    step = next_at l es i some h ∙ ap (λ (x : Direction). Follows l x (get_or es (i - 1) 0) (get_or es i 0)) (ap direction_of way)
+    step : Next l (take (i + 1) es) (get_or es (i + 1) 0) ≡ Follows l d last e
+    step =
+        let q : i + 1 - 1 ≡ i = omega arith in
+        next_at l es (i + 1) (omega arith) h
+        ∙ ap (λ (x : Direction). Follows l x (get_or es (i + 1 - 1) 0) (get_or es (i + 1) 0)) (ap direction_of way)
+        ∙ (λ k. Follows l d ((ap (λ n. get_or es n 0) q ∙ sym here) k) (sym there k))
 
-    pub step_in : Follows l d (get_or es (i - 1) 0) (get_or es i 0) → Next l (take i es) (get_or es i 0)
+    pub step_in : Follows l d last e → Next l (take (i + 1) es) (get_or es (i + 1) 0)
     step_in f = let T : Type 0 → Type 0 = λ X. X in subst T (sym step) f
 
-    pub step_out : Next l (take i es) (get_or es i 0) → Follows l d (get_or es (i - 1) 0) (get_or es i 0)
+    pub step_out : Next l (take (i + 1) es) (get_or es (i + 1) 0) → Follows l d last e
     step_out m = let T : Type 0 → Type 0 = λ X. X in subst T step m
+
+-- an entry behind the first
+pub behind : (es r : List ℕ) (f i : ℕ) → es ≡ f ∷ r → get_or r i 0 ≡ get_or es (i + 1) 0
+behind es r f i e =
+    let q : suc i ≡ i + 1 = omega arith in
+    ap (λ k. get_or (f ∷ r) k 0) q ∙ sym (ap (λ x. get_or x (i + 1) 0) e)

@@ -6,6 +6,7 @@ ghost use Rattle.judging.specs.Shared.{told_shared};
 
 use fault::kinds::BoxFault;
 use row::entries::Entries;
+use row::entry::component;
 use row::reading::read_row;
 use sets::set::ComponentSet;
 
@@ -16,7 +17,7 @@ pub fn components(list: &Entries) -> ComponentSet
     let mut set = ComponentSet::new();
     let all = list.as_slice();
     for e in all {
-        set.insert(*e / 4);
+        set.insert(component(*e));
     }
     set
 }

@@ -6,6 +6,7 @@ ghost use Rattle.judging.specs.Judged.{StartAt, Walked};
 use plan::interface::Plan;
 use plan::parts::Direction;
 use route::steps::{onward, signal};
+use row::entry::component;
 use sets::set::ComponentSet;
 
 // Whether the entry `e` comes next after `last`, travelling `way`.
@@ -22,30 +23,32 @@ fn follows<P: Plan>(plan: &P, way: Direction, last: u16, e: u16) -> bool
 fn start<P: Plan>(plan: &P, e: u16) -> Option<Direction>
     ensures { StartAt (P.layout plan.now) e result }
 {
+    // what leaves 3 says no position either, and is no start
     if e % 4 != 0 {
         return None;
     }
-    signal(plan, e / 4)
+    signal(plan, component(e))
 }
 
 // How many entries from the front on make a path.
 pub(crate) fn walked<P: Plan>(plan: &P, row: &[u16]) -> usize
     ensures { Walked (P.layout plan.now) row.now result }
 {
-    if row.is_empty() {
+    let Some((first, rest)) = row.split_first() else {
         return 0;
-    }
-    let Some(way) = start(plan, row[0]) else {
+    };
+    let Some(way) = start(plan, *first) else {
         return 0;
     };
     let mut seen = ComponentSet::new();
-    seen.insert(row[0] / 4);
-    for i in 1..row.len() {
-        let e = row[i];
-        if !follows(plan, way, row[i - 1], e) || seen.contains(e / 4) {
-            return i;
+    seen.insert(component(*first));
+    let mut last = *first;
+    for (i, e) in rest.iter().enumerate() {
+        if !follows(plan, way, last, *e) || seen.contains(component(*e)) {
+            return i + 1;
         }
-        seen.insert(e / 4);
+        seen.insert(component(*e));
+        last = *e;
     }
     row.len()
 }

@@ -1,11 +1,12 @@
 -- Which entries follow an entry.
-use Rattle.std.proofs.Common.{◌≡◌, ℕ, ◌+◌, ◌*◌, ◌/◌, ◌%◌, ◌<◌, ◌≤◌, Bool, true, false, cond, ◌&&◌, eqb, ◌⊎◌, Some, None, Option, sym, refl, ◌∙◌, subst, inl, inr, ⊎_elim, arith}
-use Rattle.std.proofs.lemmas.Bool.{cases_Bool, eq-eqb, ne_eqb}
+use Rattle.std.proofs.Common.{◌≡◌, ℕ, ◌+◌, ◌*◌, ◌/◌, ◌%◌, ◌<◌, ◌≤◌, Bool, true, false, cond, ◌&&◌, eqb, ◌⊎◌, Some, None, Option, sym, refl, ap, ◌∙◌, subst, inl, inr, ⊎_elim, arith}
+use Rattle.std.proofs.lemmas.Bool.{cases_Bool, eq-eqb, ne_eqb, true≢false}
+use Rattle.std.specs.Result.{result_unwrap_or}
 use Rattle.plan.specs.declared.parts.Side.TheVariants.{Branch}
 use Rattle.plan.specs.declared.parts.Direction.{Direction}
 use Rattle.plan.specs.declared.parts.Kind.{Kind}
 use Rattle.plan.specs.declared.parts.Port.{Port}
-use Rattle.plan.specs.Layout.{Layout, Lawful}
+use Rattle.plan.specs.Layout.{Layout, Lawful, is_port, told, told_far}
 use Rattle.plan.proofs.Ports.{port_below, far_below}
 use Rattle.route.specs.declared.steps.Range.{Range}
 use Rattle.route.specs.Paths.{exit_of, facing, towards, MayLie, Enters, Follows}
@@ -39,6 +40,15 @@ enters_one l (Some p) e e' h h' = h.0 ∙ sym h'.0
 
 pub follows_one : (l : Layout) (d : Direction) (x e e' : ℕ) → Follows l d x e → Follows l d x e' → e / 4 ≡ e' / 4
 follows_one l d x e e' = enters_one l (l.far (exit_of l d x)) e e'
+
+-- what a telling of a far port is worth where no port is as good as a blank one
+pub far_or_blank : (l : Layout) → Lawful l → (p : Port) → result_unwrap_or (told_far l p) None ≡ l.far p
+far_or_blank l w p =
+    let answer : Bool → Option Port = λ b. result_unwrap_or (told b (l.far p)) None in
+    ⊎_elim
+    (λ t. ap answer t)
+    (λ f. ap answer f ∙ sym (no_port (l.far p) (λ q e. true≢false (sym (w.ports p q e) ∙ f))))
+    (cases_Bool (is_port l p))
 
 -- nothing lies beyond a component that the layout lacks
 pub none_beyond : (l : Layout) → Lawful l → (p : Port) → l.count ≤ p.component → l.far p ≡ None

@@ -4,21 +4,18 @@ ghost use Rattle.route.specs.Paths.{Ends};
 
 use crate::steps::signal;
 use plan::interface::Plan;
+use row::entry::component;
 
 // Whether the path ends as a route does.
 pub fn is_route<P: Plan>(plan: &P, at: &[u16]) -> bool
     ensures { Begun (P.layout plan.now) at.now → MatchBool result (Ends (P.layout plan.now) at.now) (Ends (P.layout plan.now) at.now → ⊥) }
 {
-    let n = at.len();
-    if n < 2 {
+    let [first, .., last] = at else {
         return false;
-    }
+    };
     // most paths end at no signal, so the end is asked first
-    let Some(end) = signal(plan, at[n - 1] / 4) else {
+    let Some(end) = signal(plan, component(*last)) else {
         return false;
     };
-    let Some(way) = signal(plan, at[0] / 4) else {
-        return false;
-    };
-    end == way
+    signal(plan, component(*first)) == Some(end)
 }

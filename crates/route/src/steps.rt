@@ -1,9 +1,10 @@
-ghost use Rattle.std.specs.Prelude.{◌≡◌, ℕ, ◌+◌, ◌*◌, ◌<◌, ◌≤◌, IfSome};
+ghost use Rattle.std.specs.Prelude.{◌≡◌, ℕ, ◌+◌, ◌*◌, ◌%◌, ◌<◌, ◌≤◌, IfSome};
 ghost use Rattle.route.specs.Paths.{leaves_by, exit_of, MayLie, Follows};
 ghost use Rattle.route.specs.Steps.{Exactly, Told, SignalAt};
 
 use plan::interface::Plan;
-use plan::parts::{Direction, Kind, Port, Side};
+use plan::parts::{Direction, Kind, Port, Position, Side};
+use row::entry::{component, lie};
 
 // The numbers from `low` to `high`.
 #[derive(Clone, Copy, PartialEq, Eq, Debug)]
@@ -16,23 +17,19 @@ pub struct Range {
 pub fn signal<P: Plan>(plan: &P, component: u16) -> Option<Direction>
     ensures { SignalAt (P.layout plan.now) component result }
 {
-    let Ok(kind) = plan.kind(component) else {
-        return None;
-    };
-    match kind {
-        Kind::Signal(direction) => Some(direction),
-        Kind::Switch(_) => None,
-        Kind::Straight => None,
+    match plan.kind(component) {
+        Ok(Kind::Signal(direction)) => Some(direction),
+        _ => None,
     }
 }
 
-// The port by which a component that lies so is left.
-fn leaves(kind: Kind, way: Direction, lie: u16) -> Side
-    ensures { result ≡ leaves_by kind way lie }
+// The port by which a component of the kind is left that lies as the entry says.
+fn leaves(kind: Kind, way: Direction, entry: u16) -> Side
+    ensures { result ≡ leaves_by kind way (entry % 4) }
 {
+    let reverse = lie(entry) == Some(Position::Reverse);
     match (kind, way) {
-        (Kind::Switch(Direction::East), Direction::East) if lie == 2 => Side::Branch,
-        (Kind::Switch(Direction::West), Direction::West) if lie == 2 => Side::Branch,
+        (Kind::Switch(direction), _) if direction == way && reverse => Side::Branch,
         (_, Direction::East) => Side::East,
         (_, Direction::West) => Side::West,
     }
@@ -56,15 +53,12 @@ fn lies(kind: Kind, side: Side) -> Range
 fn beyond<P: Plan>(plan: &P, way: Direction, last: u16) -> Option<Port>
     ensures { result ≡ (P.layout plan.now).far (exit_of (P.layout plan.now) way last) }
 {
-    let component = last / 4;
+    let component = component(last);
     let Ok(kind) = plan.kind(component) else {
         return None;
     };
-    let side = leaves(kind, way, last % 4);
-    let Ok(far) = plan.far(Port { component, side }) else {
-        return None;
-    };
-    far
+    plan.far(leaves(kind, way, last).of(component))
+        .unwrap_or(None)
 }
 
 // The entries that may follow the entry `last`, travelling `way`. A blank port stops the path.

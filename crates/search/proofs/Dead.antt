@@ -67,8 +67,10 @@ module _ (l : Layout) (w : Lawful l) (q : List ℕ) (d : Direction) (seen : Comp
       (passed m (omega arith) h s).0 (begun_below l w r (path_begun l r route.0) m h) (route.1.1 ∙ ap Signal heading_is)
 
 -- The same, of the flood that began with the path's components, where `s` is what a slice showed of the path.
-pub barren : (l : Layout) → Lawful l → (q s : List ℕ) → s ≡ q → (d : Direction) (f g h : Flood) → 0 < length s → l.kind (get_or s 0 0 / 4) ≡ Signal d → ((c : ℕ) → has f.seen c ≡ times c q) → Marked l d (last_of s) f g → Settled l d g h → ((c : ℕ) → has h.waiting c ≡ 0) → Barren l q
-barren l w q s shown d f g h some way on marked settled none e t route =
+pub barren : (l : Layout) → Lawful l → (q s : List ℕ) → s ≡ q → (d : Direction) (f g h : Flood) → 0 < length s → l.kind (get_or s 0 0 / 4) ≡ Signal d → ((c : ℕ) → has f.seen c ≡ times c q) → (last : ℕ) → last ≡ last_of s → Marked l d last f g → Settled l d g h → ((c : ℕ) → has h.waiting c ≡ 0) → Barren l q
+barren l w q s shown d f g h some way on last at_end from_last settled none e t route =
+    let M : ℕ → Type 0 = λ x. Marked l d x f g in
+    let marked = subst M at_end from_last in
     let S : List ℕ → Type 0 = λ x. Route l (x ++ e ∷ t) in
     dead l w s d h.seen some (ap direction_of way)
     (covers_more l d (last_of s) g.seen h.seen settled.keeps marked.covers)

@@ -1,6 +1,11 @@
 -- Going back past entries that no other can stand in the place of.
-use Rattle.std.proofs.Common.{◌≡◌, ℕ, zero, suc, ◌+◌, ◌%◌, ◌<◌, ◌≤◌, Bool, true, false, cond, ◌⊎◌, List, [], ◌∷◌, ◌++◌, length, get_or, take, Some, None, Option, sym, ap, ◌∙◌, subst, ⊎_elim, arith, length-append}
+use Rattle.std.proofs.Common.{◌≡◌, ℕ, zero, suc, ◌+◌, ◌%◌, ◌<◌, ◌≤◌, Bool, true, false, cond, eqb, ◌⊎◌, List, [], ◌∷◌, ◌++◌, length, get_or, take, Some, None, Option, sym, ap, ◌∙◌, subst, ⊎_elim, arith, length-append}
 use Rattle.std.proofs.lemmas.List.{append_assoc, take_more, take_all, get_or-take, length-take-le}
+use Rattle.std.proofs.lemmas.Bool.{eq-eqb, true≢false}
+use Rattle.std.specs.Option.{option_eq}
+use Rattle.plan.specs.contracts.parts.PositionPartialEq.TheImpl as lies
+use Rattle.plan.specs.declared.parts.Position.TheVariants.{Normal, Reverse}
+use Rattle.row.specs.Lies.{lie_of}
 use Rattle.plan.specs.declared.parts.Kind.{Kind}
 use Rattle.plan.specs.declared.parts.Kind.TheVariants.{Signal, Switch, Straight}
 use Rattle.plan.specs.declared.parts.Side.{Side}
@@ -69,3 +74,9 @@ ahead_retreat l p q e (suc n) t f h s a m =
     (λ i k z. let j : i < n = omega (arith, length-take-le n t (omega arith)) in s i (omega arith) (ap (λ y. y % 4) (sym (get_or-take n t i 0 j)) ∙ z))
     (ahead_back l p r x f a' (subst M same m))
     (last_sibling l r x some (s n low) (grown_at (May l) r [] x a'.begun))
+
+-- an entry that is not found to be that of a switch lying normal is none
+pub not_normal : (e : ℕ) → option_eq lies.ghosts.eq (lie_of e) (Some Normal) ≡ false → e % 4 ≡ 1 → ⊥
+not_normal e other h =
+    let yes = ap (λ b. option_eq lies.ghosts.eq (cond b (Some Normal) (cond (eqb (e % 4) 2) (Some Reverse) None)) (Some Normal)) (eq-eqb (e % 4) 1 h) in
+    true≢false (sym yes ∙ other)

@@ -7,6 +7,7 @@ use crate::position::Position;
 use plan::interface::Plan;
 use plan::parts::Direction;
 use route::steps::{onward, signal};
+use row::entry::component;
 
 // The first entry of a signal from `from` on.
 fn next_start<P: Plan>(plan: &P, from: u16) -> Option<u16>
@@ -25,9 +26,7 @@ fn next_start<P: Plan>(plan: &P, from: u16) -> Option<u16>
 fn next_after<P: Plan>(plan: &P, way: Direction, last: u16, from: u16) -> Option<u16>
     ensures { Least (Follows (P.layout plan.now) way last) from result }
 {
-    let Some(range) = onward(plan, way, last) else {
-        return None;
-    };
+    let range = onward(plan, way, last)?;
     if from < range.low {
         return Some(range.low);
     }
@@ -39,14 +38,11 @@ fn next_entry<P: Plan>(plan: &P, at: &[u16], from: u16) -> Option<u16>
     ensures least { Begun (P.layout plan.now) at.now → Least (Next (P.layout plan.now) at.now) from result }
     ensures onward { IfSome result (λ e. from ≤ e) }
 {
-    let n = at.len();
-    if n == 0 {
+    let (Some(first), Some(last)) = (at.first(), at.last()) else {
         return next_start(plan, from);
-    }
-    let Some(way) = signal(plan, at[0] / 4) else {
-        return None;
     };
-    next_after(plan, way, at[n - 1], from)
+    let way = signal(plan, component(*first))?;
+    next_after(plan, way, *last, from)
 }
 
 // Goes down to the least entry from `from` on that may stand after the path; false where there is none.

@@ -9,16 +9,14 @@ use crate::position::Position;
 use plan::interface::Plan;
 use plan::parts::Direction;
 use route::steps::{onward, signal};
+use row::entry::component;
 use sets::set::ComponentSet;
 
 // Whether the component is a signal of the direction.
 fn guards<P: Plan>(plan: &P, way: Direction, component: u16) -> bool
     ensures { result ≡ false → component < (P.layout plan.now).count → (P.layout plan.now).kind component ≢ SignalOf way }
 {
-    let Some(direction) = signal(plan, component) else {
-        return false;
-    };
-    direction == way
+    signal(plan, component) == Some(way)
 }
 
 impl Flood {
@@ -29,7 +27,7 @@ impl Flood {
         let Some(range) = onward(plan, way, from) else {
             return;
         };
-        let component = range.low / 4;
+        let component = component(range.low);
         if self.seen.contains(component) {
             return;
         }
@@ -68,17 +66,16 @@ pub(crate) fn leads_on<P: Plan>(plan: &P, at: &Position) -> bool
     ensures { result ≡ false → Barren (P.layout plan.now) (path_of at.now) }
 {
     let path = at.entries();
-    let n = path.len();
-    if n == 0 {
+    let (Some(first), Some(last)) = (path.first(), path.last()) else {
         return true;
-    }
-    let Some(way) = signal(plan, path[0] / 4) else {
+    };
+    let Some(way) = signal(plan, component(*first)) else {
         return true;
     };
     let mut flood = Flood {
         seen: at.components(),
         waiting: ComponentSet::new(),
     };
-    flood.mark(plan, way, path[n - 1]);
+    flood.mark(plan, way, *last);
     flood.reaches_signal(plan, way)
 }

@@ -4,7 +4,9 @@ ghost use Rattle.route.specs.Components.{times};
 ghost use Rattle.search.specs.View.{path_of, Pushed, Retreated};
 
 use super::Position;
+use plan::parts;
 use row::entries::Entries;
+use row::entry::{component, lie};
 use sets::set::ComponentSet;
 
 impl Position {
@@ -37,7 +39,7 @@ impl Position {
     pub fn push(&mut self, e: u16) -> bool
         ensures { Pushed self.old e self.new result }
     {
-        let component = e / 4;
+        let component = component(e);
         if e >= 2048 || self.path.len() >= 512 || self.on.contains(component) {
             return false;
         }
@@ -53,7 +55,7 @@ impl Position {
         let Some(e) = self.path.pop() else {
             return None;
         };
-        self.on.remove(e / 4);
+        self.on.remove(component(e));
         Some(e)
     }
 
@@ -63,7 +65,7 @@ impl Position {
         ensures { Retreated (path_of self.old) (path_of self.new) result }
     {
         while let Some(e) = self.pop() {
-            if e % 4 == 1 || self.path.len() == 0 {
+            if lie(e) == Some(parts::Position::Normal) || self.path.len() == 0 {
                 return Some(e);
             }
         }

@@ -15,8 +15,8 @@ returns-in_err-first_reading c = record {
   means = means c.args.bytes.now c.from_residual.result (first_break c);
 }
 
-pub second_reading-requires : goal.second_reading-requires
-second_reading-requires c = (read_whole c.contents-file.result.bytes.now (sym c.in_ok-first_reading.ensures)).few
+pub invariant_of-second_reading : goal.invariant_of-second_reading
+invariant_of-second_reading c = record { few = (read_whole c.contents-file.result.bytes.now (sym c.in_ok-first_reading.ensures)).few }
 
 first_end : (c : goal.After-second_reading) → c.second_reading.result ≡ look c.args.bytes.now
 unfolding look

@@ -1,5 +1,6 @@
 use Rattle.std.proofs.Common.{ap, ◌∙◌, arith}
 use Rattle.std.proofs.lemmas.List.{take_all}
+use Rattle.sets.specs.Members.{joined}
 use Rattle.route.specs.Components.{on}
 use Rattle.judging.proofs.Gathered.{gathers_none, gathers_more}
 use Rattle.judging.proofs.shared.components.Goals as goal
@@ -11,7 +12,7 @@ pub loop-e-preserved : goal.loop-e-preserved
 loop-e-preserved c =
     let i = c.loop-e.e-index in
     let small = c.as_slice-all.ensures.small i (omega arith) in
-    gathers_more c.loop-e.set c.insert.new.self c.as_slice-all.result.now i c.loop-e.invariant (omega arith) (omega arith) c.insert.ensures
+    gathers_more c.loop-e.set c.insert.new.self c.as_slice-all.result.now i c.loop-e.invariant (omega arith) (omega arith) (λ k. c.insert.ensures k ∙ ap (λ n. joined c.loop-e.set n k) c.component.ensures)
 
 pub returns : goal.returns
 returns c = λ k.

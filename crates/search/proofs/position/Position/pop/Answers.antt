@@ -1,5 +1,6 @@
 use Rattle.std.proofs.Common.{ap, ◌∙◌}
 use Rattle.row.specs.View.{entries}
+use Rattle.sets.specs.Members.{left}
 use Rattle.search.proofs.Ties.{tied_less}
 use Rattle.search.proofs.position.Position.pop.Goals as goal
 
@@ -9,4 +10,8 @@ returns-in_default c = let h = c.in_default.ensures in (h.0, ap entries h.1 ∙ 
 pub invariant_of-self-2 : goal.invariant_of-self-2
 invariant_of-self-2 c =
     let s = c.args.self.now in
-    record { tied = tied_less s.on c.remove.new.self (entries s.path) (entries c.pop.new.self) c.in-Some.e s.tied c.in-Some.ensures c.remove.ensures }
+    record {
+      tied =
+          tied_less s.on c.remove.new.self (entries s.path) (entries c.pop.new.self) c.in-Some.e s.tied c.in-Some.ensures
+          (λ k. c.remove.ensures k ∙ ap (λ n. left s.on n k) c.component.ensures);
+    }

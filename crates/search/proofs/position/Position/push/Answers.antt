@@ -1,7 +1,7 @@
-use Rattle.std.proofs.Common.{◌/◌, ◌<◌, length, sym, refl, ◌∙◌, arith}
+use Rattle.std.proofs.Common.{◌/◌, ◌<◌, eqb, length, sym, refl, ap, ◌∙◌, arith}
 use Rattle.std.proofs.lemmas.Bool.{eqb-true}
 use Rattle.row.specs.View.{entries}
-use Rattle.sets.specs.Members.{has}
+use Rattle.sets.specs.Members.{has, joined}
 use Rattle.sets.proofs.Membership.{not_in}
 use Rattle.route.proofs.Counts.{none_new, some_old}
 use Rattle.search.proofs.Ties.{tied_more, fits}
@@ -18,7 +18,7 @@ returns-then-e-ge2048 c =
             | then-e-ge2048-via-then-e-ge2048 w ↦ omega (arith, w.if-e-ge2048.true)
             | then-e-ge2048-via-else-e-ge2048+then-len-ge512 w ↦ omega (arith, w.if-len-ge512.true, w.len.ensures.value)
             | then-e-ge2048-via-else-e-ge2048+else-len-ge512+then-contains w ↦
-                let h = eqb-true (has s.on k) 1 (sym w.contains.ensures ∙ w.if-contains.true) in
+                let h = eqb-true (has s.on k) 1 (ap (λ n. eqb (has s.on n) 1) (sym c.component-component.ensures) ∙ sym w.contains.ensures ∙ w.if-contains.true) in
                 let t = s.tied k in
                 some_old (entries s.path) c.args.e (omega arith) new
           ],
@@ -30,14 +30,14 @@ invariant_of-self c =
     let s = c.args.self.now in
     let e = c.args.e in
     let short : length (entries s.path) < 512 = omega (arith, c.len.ensures.value) in
-    let out = not_in s.on (e / 4) (sym c.contains.ensures ∙ c.if-contains.false) in
+    let out = not_in s.on (e / 4) (ap (λ n. eqb (has s.on n) 1) (sym c.component-component.ensures) ∙ sym c.contains.ensures ∙ c.if-contains.false) in
     let grown = c.push.ensures.grown (c.push.ensures.fits ∙ fits (length (entries s.path)) e short c.if-e-ge2048.false) in
-    record { tied = tied_more s.on c.insert.new.self (entries s.path) (entries c.push.new.self) e s.tied out c.if-e-ge2048.false grown c.insert.ensures }
+    record { tied = tied_more s.on c.insert.new.self (entries s.path) (entries c.push.new.self) e s.tied out c.if-e-ge2048.false grown (λ k. c.insert.ensures k ∙ ap (λ n. joined s.on n k) c.component-component.ensures) }
 
 pub returns : goal.returns
 returns c =
     let s = c.args.self.now in
     let e = c.args.e in
     let short : length (entries s.path) < 512 = omega (arith, c.len.ensures.value) in
-    let out = not_in s.on (e / 4) (sym c.contains.ensures ∙ c.if-contains.false) in
+    let out = not_in s.on (e / 4) (ap (λ n. eqb (has s.on n) 1) (sym c.component-component.ensures) ∙ sym c.contains.ensures ∙ c.if-contains.false) in
     (c.push.ensures.grown (c.push.ensures.fits ∙ fits (length (entries s.path)) e short c.if-e-ge2048.false), none_new (entries s.path) e (sym (s.tied (e / 4)) ∙ out), c.if-e-ge2048.false)

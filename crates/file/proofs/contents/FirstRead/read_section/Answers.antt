@@ -1,6 +1,6 @@
 use Rattle.std.proofs.Common.{rules}
 use Rattle.file.specs.Readings.{section_check}
-use Rattle.file.proofs.second.read_section.Goals as goal
+use Rattle.file.proofs.contents.FirstRead.read_section.Goals as goal
 
 pub returns-then-count-members : goal.returns-then-count-members
 unfolding section_check
