@@ -1,5 +1,5 @@
 -- The pool of slips and the open rows move together, order by order.
-use Rattle.std.proofs.Common.{◌≡◌, ℕ, ◌+◌, ◌<◌, List, [], ◌∷◌, ◌++◌, length, get_or, Ok, Err, Option, Result, sym, refl, ap, ◌∙◌, subst, inl, inr, vec_items, arith}
+use Rattle.std.proofs.Common.{◌≡◌, ℕ, ◌+◌, ◌<◌, List, [], ◌∷◌, ◌++◌, length, get_or, Ok, Err, Option, Result, refl, ap, ◌∙◌, inl, inr, vec_items, arith}
 use Rattle.std.proofs.lemmas.List.{map_push}
 use Rattle.std.specs.List.{remove}
 use Rattle.fault.specs.declared.kinds.BoxFault.{BoxFault}
