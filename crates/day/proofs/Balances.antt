@@ -1,5 +1,5 @@
 -- The pool of slips and the open rows move together, order by order.
-use Rattle.std.proofs.Common.{◌≡◌, ℕ, ◌+◌, ◌<◌, List, [], ◌∷◌, ◌++◌, length, get_or, Ok, Err, Option, Result, sym, refl, ap, ◌∙◌, subst, inl, inr, vec_items, arith}
+use Rattle.std.proofs.Common.{◌≡◌, ℕ, ◌+◌, ◌<◌, List, [], ◌∷◌, ◌++◌, length, get_or, Ok, Err, Option, Result, refl, ap, ◌∙◌, inl, inr, vec_items, arith}
 use Rattle.std.proofs.lemmas.List.{map_push}
 use Rattle.std.specs.List.{remove}
 use Rattle.fault.specs.declared.kinds.BoxFault.{BoxFault}
@@ -22,28 +22,22 @@ use Rattle.day.proofs.Copies.{copies_none, copies_append, copies_removed, copies
 
 -- one order, on a pool that was `start` at first
 module _ (l : Layout) (start p : List ℕ) (j : Journal) (kept : Balanced start p j.book) where
-  -- no call, or one that opens and closes nothing
-  unmoved : (q : List ℕ) (e f : Option Event) → e ≡ f → q ≡ p → (noted j f).book.opened ≡ j.book.opened → Balanced start q (noted j e).book
-  unmoved q e f call same o s =
-      let F : Option Event → Type 0 = λ x. copies s q ≡ copies s start + copies s (serials (noted j x).book.opened) in
-      let now = ap (λ (rows : List OpenRow). copies s start + copies s (serials rows)) (sym o) in
-      subst F (sym call) (ap (copies s) same ∙ kept s ∙ now)
+  -- calls that open and close nothing
+  turned : (v w : List ℕ) (r : Result ℕ BoxFault) → Balanced start p (after j (Turned v w r)).book
+  turned v w (Ok n) = kept
+  turned v w (Err f) = kept
 
-  turned : (v w : List ℕ) (r : Result ℕ BoxFault) → (after j (Turned v w r)).book.opened ≡ j.book.opened
-  turned v w (Ok n) = refl
-  turned v w (Err f) = refl
+  thrown : (c : ℕ) (t : Position) (r : Result (Unit {0}) BoxFault) → Balanced start p (after j (Thrown c t r)).book
+  thrown c t (Ok u) = kept
+  thrown c t (Err f) = kept
 
-  thrown : (c : ℕ) (t : Position) (r : Result (Unit {0}) BoxFault) → (after j (Thrown c t r)).book.opened ≡ j.book.opened
-  thrown c t (Ok u) = refl
-  thrown c t (Err f) = refl
+  occupied : (n : ℕ) (r : Result (Unit {0}) BoxFault) → Balanced start p (after j (Occupied n r)).book
+  occupied n (Ok u) = kept
+  occupied n (Err f) = kept
 
-  occupied : (n : ℕ) (r : Result (Unit {0}) BoxFault) → (after j (Occupied n r)).book.opened ≡ j.book.opened
-  occupied n (Ok u) = refl
-  occupied n (Err f) = refl
-
-  cleared : (n : ℕ) (r : Result (Unit {0}) BoxFault) → (after j (Cleared n r)).book.opened ≡ j.book.opened
-  cleared n (Ok u) = refl
-  cleared n (Err f) = refl
+  cleared : (n : ℕ) (r : Result (Unit {0}) BoxFault) → Balanced start p (after j (Cleared n r)).book
+  cleared n (Ok u) = kept
+  cleared n (Err f) = kept
 
   given : (n : ℕ) (row : OpenRow) → row.serial ≡ n → (s : ℕ) → copies s (p ++ n ∷ []) ≡ copies s start + copies s (serials (j.book.opened ++ row ∷ []))
   given n row e s =
@@ -65,34 +59,21 @@ module _ (l : Layout) (start p : List ℕ) (j : Journal) (kept : Balanced start 
       omega (arith, copies_removed s p k h, copies_append s (remove p k) (get_or p k 0 ∷ []))
 
   performed : (o : Order) (a : Answer) (q : List ℕ) (e : Option Event) → Performed o a p q e → Answered l j e → Balanced start q (noted j e).book
-  performed (Turn v) a q e t d = unmoved q e _ t.3 t.4 (turned (vec_items v) (vec_items t.0) t.1)
-  performed Restart a q e t d = unmoved q e _ t.1 t.2 refl
-  performed (Throw c m) a q e t d = unmoved q e _ t.2 t.3 (thrown c m t.0)
-  performed (Occupy n) a q e t d = unmoved q e _ t.2 t.3 (occupied n t.0)
-  performed (Clear n) a q e t d = unmoved q e _ t.2 t.3 (cleared n t.0)
-  performed (Open v) a q e t d =
-      let F : Option Event → Type 0 = λ x. Balanced start q (noted j x).book in
-      let G : List ℕ → Type 0 = λ x. Balanced start x (after j (Opened (vec_items v) t.0)).book in
-      subst F (sym t.2) (subst G (sym t.3) (opened (vec_items v) t.0))
-  performed (Release k) a q e (inl (h, t)) d =
-      let n = get_or p k 0 in
-      let F : Option Event → Type 0 = λ x. Balanced start q (noted j x).book in
-      let G : List ℕ → Type 0 = λ x. Balanced start x (after j (Released n t.0)).book in
-      let A : Option Event → Type 0 = λ x. Answered l j x in
-      subst F (sym t.2) (subst G (sym t.3) (released k t.0 h (subst A t.2 d)))
-  performed (Release k) a q e (inr t) d = unmoved q e _ t.2 t.3 refl
+  performed (Turn v) a q e t d = rw (t.3, t.4) (turned (vec_items v) (vec_items t.0) t.1)
+  performed Restart a q e t d = rw (t.1, t.2) kept
+  performed (Throw c m) a q e t d = rw (t.2, t.3) (thrown c m t.0)
+  performed (Occupy n) a q e t d = rw (t.2, t.3) (occupied n t.0)
+  performed (Clear n) a q e t d = rw (t.2, t.3) (cleared n t.0)
+  performed (Open v) a q e t d = rw (t.2, t.3) (opened (vec_items v) t.0)
+  performed (Release k) a q e (inl (h, t)) d = rw (t.2, t.3) (released k t.0 h (rw t.2 at d))
+  performed (Release k) a q e (inr t) d = rw (t.2, t.3) kept
 
 day_balanced : (l : Layout) (start p : List ℕ) (j : Journal) (os : List Order) (rs : List Answer) (j' : Journal) (p' : List ℕ) → Day l j p os rs j' p' → Balanced start p j.book → Balanced start p' j'.book
-day_balanced l start p j [] [] j' p' h kept =
-    let F : Journal → Type 0 = λ x. Balanced start p' x.book in
-    let G : List ℕ → Type 0 = λ x. Balanced start x j.book in
-    subst F (sym h.0) (subst G (sym h.1) kept)
+day_balanced l start p j [] [] j' p' h kept = rw (h.0, h.1) kept
 day_balanced l start p j [] (a ∷ rs) j' p' h kept = absurd h
 day_balanced l start p j (o ∷ os) [] j' p' h kept = absurd h
 day_balanced l start p j (o ∷ os) (a ∷ rs) j' p' h kept =
     day_balanced l start h.1 (noted j h.0) os rs j' p' h.4 (performed l start p j kept o a h.1 h.0 h.2 h.3)
 
 pub whole_balanced : (P : Type 0) (l : Layout) (p : List ℕ) (os : List Order) (rs : List Answer) (p' : List ℕ) (b : Book) → WholeDay P l p os rs p' b → Balanced p p' b
-whole_balanced P l p os rs p' b h =
-    let F : Book → Type 0 = λ x. Balanced p p' x in
-    subst F (sym h.2) (day_balanced l p p unwritten os rs h.0 p' h.1 (λ s. omega (arith, copies_none s)))
+whole_balanced P l p os rs p' b h = rw h.2 (day_balanced l p p unwritten os rs h.0 p' h.1 (λ s. omega (arith, copies_none s)))

@@ -4,3 +4,4 @@ pub mod Day
 pub mod Step
 pub mod Chain
 pub mod Balance
+pub mod Words

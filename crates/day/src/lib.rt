@@ -4,3 +4,4 @@
 pub mod orders;
 mod performing;
 pub mod running;
+mod words;

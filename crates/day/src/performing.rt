@@ -1,9 +1,6 @@
-ghost use Rattle.std.specs.Prelude.{◌≡◌, ◌+◌, ◌<◌, ◌≤◌, vec_len, vec_capacity};
-ghost use Rattle.signal_box.specs.Journal.{Journal};
-ghost use Rattle.signal_box.specs.Kept.{Kept};
+ghost use Rattle.std.specs.Prelude.{◌<◌, vec_len, vec_capacity};
 ghost use Rattle.day.specs.declared.orders.Order.TheVariants.{Open, Release};
-ghost use Rattle.day.specs.Pool.{serials};
-ghost use Rattle.day.specs.Step.{Step};
+ghost use Rattle.day.specs.Step.{Performs};
 
 use crate::orders::{Answer, Order};
 use frame::slip::Slip;
@@ -17,10 +14,7 @@ pub(crate) fn perform<P: Plan>(
     order: Order,
 ) -> Answer
     requires { vec_len pool.old < vec_capacity pool.old }
-    ensures step { (j : Journal) → Kept (P.layout station.old.register.plan) j station.old → Step (P.layout station.old.register.plan) j (serials pool.old.items) order result (serials pool.new.items) station.new }
-    ensures plan { station.new.register.plan ≡ station.old.register.plan }
-    ensures len { vec_len pool.new ≤ vec_len pool.old + 1 }
-    ensures capacity { vec_capacity pool.new ≡ vec_capacity pool.old }
+    ensures { Performs P.layout station.old pool.old order result station.new pool.new }
 {
     match order {
         Order::Turn(mut space) => {
@@ -42,10 +36,7 @@ pub(crate) fn perform<P: Plan>(
 // Opens a row; the slip goes to the pool.
 fn open<P: Plan>(station: &mut SignalBox<P>, pool: &mut Vec<Slip>, row: Vec<u8>) -> Answer
     requires { vec_len pool.old < vec_capacity pool.old }
-    ensures step { (j : Journal) → Kept (P.layout station.old.register.plan) j station.old → Step (P.layout station.old.register.plan) j (serials pool.old.items) (Open row) result (serials pool.new.items) station.new }
-    ensures plan { station.new.register.plan ≡ station.old.register.plan }
-    ensures len { vec_len pool.new ≤ vec_len pool.old + 1 }
-    ensures capacity { vec_capacity pool.new ≡ vec_capacity pool.old }
+    ensures { Performs P.layout station.old pool.old (Open row) result station.new pool.new }
 {
     match station.open(&row) {
         Ok(slip) => {
@@ -60,10 +51,7 @@ fn open<P: Plan>(station: &mut SignalBox<P>, pool: &mut Vec<Slip>, row: Vec<u8>)
 // Releases a slip of the pool; one that is handed back goes to the end of the pool.
 fn release<P: Plan>(station: &mut SignalBox<P>, pool: &mut Vec<Slip>, place: usize) -> Answer
     requires { vec_len pool.old < vec_capacity pool.old }
-    ensures step { (j : Journal) → Kept (P.layout station.old.register.plan) j station.old → Step (P.layout station.old.register.plan) j (serials pool.old.items) (Release place) result (serials pool.new.items) station.new }
-    ensures plan { station.new.register.plan ≡ station.old.register.plan }
-    ensures len { vec_len pool.new ≤ vec_len pool.old + 1 }
-    ensures capacity { vec_capacity pool.new ≡ vec_capacity pool.old }
+    ensures { Performs P.layout station.old pool.old (Release place) result station.new pool.new }
 {
     if place >= pool.len() {
         return Answer::NoSlip;

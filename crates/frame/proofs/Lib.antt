@@ -1,4 +1,3 @@
 pub mod Opens
 pub mod Places
-pub mod Shifts
 pub mod Watched

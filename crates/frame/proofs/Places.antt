@@ -1,40 +1,41 @@
--- Looking for the open row of a serial, place by place.
-use Rattle.std.proofs.Common.{◌≡◌, ℕ, ◌+◌, ◌<◌, ◌≤◌, Bool, true, false, cond, eqb, List, [], ◌∷◌, ◌++◌, length, get_or, take, drop, Some, None, sym, refl, ap, ◌∙◌, add-one, arith, below_more}
-use Rattle.std.proofs.lemmas.List.{at_drop_more, take_more, append_assoc}
+-- The place of a serial among the open rows.
+use Rattle.std.proofs.Common.{◌≡◌, ℕ, zero, suc, ◌<◌, Bool, cond, List, [], ◌∷◌, length, get_or, Option, Some, None, MatchOption, sym, ap, ◌∙◌, suc-le-suc, arith}
 use Rattle.std.proofs.lemmas.Bool.{eq-eqb, ne_eqb}
+use Rattle.std.proofs.lemmas.List.{length-map, get_or-map}
+use Rattle.std.specs.List.{remove, HoldsAt, AllWithin}
+use Rattle.frame.specs.declared.open_route.OpenRoute.{OpenRoute}
 use Rattle.frame.specs.Book.{OpenRow, struck}
 use Rattle.frame.specs.Calls.{no_row}
 use Rattle.frame.specs.Placed.{Placed}
+use Rattle.frame.specs.View.{open_row, open_rows}
 
--- none of the first `i` rows has the serial, so they stay when it is struck
-pub record Passed (rs : List OpenRow) (s i : ℕ) : Type 0 where
-  pub none : (k : ℕ) → k < i → (get_or rs k no_row).serial ≡ s → ⊥
-  pub rest : take i rs ++ struck s (drop i rs) ≡ struck s rs
+-- the row that is struck is the first with the serial
+struck_first : (rs : List OpenRow) (s i : ℕ) → i < length rs → (get_or rs i no_row).serial ≡ s → ((k : ℕ) → k < i → (get_or rs k no_row).serial ≡ s → ⊥) → struck s rs ≡ remove rs i
+struck_first [] s i h e before = absurd (omega arith)
+struck_first (r ∷ rs) s zero h e before = ap (λ (b : Bool). cond b rs (r ∷ struck s rs)) (eq-eqb r.serial s e)
+struck_first (r ∷ rs) s (suc i) h e before =
+    ap (λ (b : Bool). cond b rs (r ∷ struck s rs)) (ne_eqb r.serial s (before zero (omega arith)))
+    ∙ ap (λ (xs : List OpenRow). r ∷ xs) (struck_first rs s i (omega arith) e (λ k l. before (suc k) (suc-le-suc l)))
 
-module _ (rs : List OpenRow) (s : ℕ) where
-  pub passed_none : Passed rs s 0
-  passed_none = record { none = λ k h e. omega arith; rest = refl }
+abbrev pub Has : ℕ → OpenRoute → Type 0
+Has s x = x.serial ≡ s
 
-  -- what is struck from place `i` on
-  struck_at : (i : ℕ) (b : Bool) → i < length rs → eqb (get_or rs i no_row).serial s ≡ b →
-      take i rs ++ struck s (drop i rs) ≡ take i rs ++ cond b (drop (i + 1) rs) (get_or rs i no_row ∷ struck s (drop (i + 1) rs))
-  struck_at i b h e =
-      at_drop_more (λ ys. take i rs ++ struck s ys) rs i no_row h
-      ∙ ap (λ (x : Bool). take i rs ++ cond x (drop (i + 1) rs) (get_or rs i no_row ∷ struck s (drop (i + 1) rs))) e
+abbrev pub HasNot : ℕ → OpenRoute → Type 0
+HasNot s x = x.serial ≡ s → ⊥
 
-  pub passed_hit : (i : ℕ) → i < length rs → (get_or rs i no_row).serial ≡ s → Passed rs s i → Placed rs s (Some i)
-  passed_hit i h e p =
-      (h, e, sym p.rest ∙ struck_at i true h (eq-eqb _ s e) ∙ ap (λ n. take i rs ++ drop n rs) (add-one i))
+serial_at : (rs : List OpenRoute) (i : ℕ) (d : OpenRoute) → i < length rs → (get_or (open_rows rs) i no_row).serial ≡ (get_or rs i d).serial
+serial_at rs i d h = ap (λ (r : OpenRow). r.serial) (get_or-map open_row rs i d no_row h)
 
-  pub passed_more : (i : ℕ) → i < length rs → ((get_or rs i no_row).serial ≡ s → ⊥) → Passed rs s i → Passed rs s (i + 1)
-  passed_more i h n p = record {
-    none = below_more (λ k. (get_or rs k no_row).serial ≡ s → ⊥) i p.none n;
-    rest =
-        ap (λ ys. ys ++ struck s (drop (i + 1) rs)) (take_more rs i no_row h)
-        ∙ append_assoc (take i rs) (get_or rs i no_row ∷ []) (struck s (drop (i + 1) rs))
-        ∙ sym (struck_at i false h (ne_eqb _ s n))
-        ∙ p.rest;
-  }
-
-  pub passed_all : (i : ℕ) → length rs ≤ i → Passed rs s i → Placed rs s None
-  passed_all i h p = λ o. let k = o.1 in p.none o.0 (omega arith) o.2
+pub placed : (rs : List OpenRoute) (s : ℕ) (r : Option ℕ) → MatchOption r (AllWithin (HasNot s) rs 0 (length rs)) (λ i. (i < length rs) × HoldsAt (Has s) rs i × AllWithin (HasNot s) rs 0 i) → Placed (open_rows rs) s r
+placed [] s None h = λ o. let k = o.1 in omega arith
+placed [] s (Some i) h = let k = h.0 in absurd (omega arith)
+placed (x ∷ xs) s None h = λ o.
+    let k = o.1 in
+    let n = length-map (x ∷ xs) open_row in
+    let low : o.0 < length (x ∷ xs) = omega arith in
+    h o.0 x (omega arith) low (sym (serial_at (x ∷ xs) o.0 x low) ∙ o.2)
+placed (x ∷ xs) s (Some i) h =
+    let inside : i < length (open_rows (x ∷ xs)) = simp length-map h.0 in
+    let has = serial_at (x ∷ xs) i x h.0 ∙ h.1 x in
+    let k = h.0 in
+    (inside, has, struck_first (open_rows (x ∷ xs)) s i inside has (λ j l e. h.2 j x (omega arith) l (sym (serial_at (x ∷ xs) j x (omega arith)) ∙ e)))

@@ -1,5 +1,5 @@
 -- What a frame holds, as a book.
-use Rattle.std.specs.Prelude.{ℕ, ◌-◌, Bool, cond, List, map, take, ◌==◌, nat_lt}
+use Rattle.std.specs.Prelude.{ℕ, ◌-◌, Bool, cond, List, map, ◌==◌, nat_lt}
 use Rattle.plan.specs.declared.parts.Position.{Position}
 use Rattle.plan.specs.declared.parts.Position.TheVariants.{Normal, Reverse}
 use Rattle.sets.specs.declared.set.ComponentSet.{ComponentSet}
@@ -32,6 +32,6 @@ view f =
     record {
       position = position_in f.reversed;
       occupied = occupied_in f.occupied;
-      opened = open_rows (take f.count f.routes);
+      opened = open_rows f.routes.items;
       given = f.given;
     }

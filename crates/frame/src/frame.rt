@@ -1,7 +1,6 @@
-ghost use Rattle.std.specs.Prelude.{◌≡◌, ◌≤◌, length};
-
 use crate::open_route::OpenRoute;
 use crate::sections::Sections;
+use arrayvec::ArrayVec;
 use sets::set::ComponentSet;
 
 mod asking;
@@ -11,15 +10,15 @@ mod opening;
 mod releasing;
 mod throwing;
 
-// Switches lie normal but for those of a set; the first `count` places hold the open routes, in the order of their
-// opening. A frame knows no plan: each call is lent the plan that it is about.
+// How many routes stand open at most.
+const MOST_OPEN: usize = 8;
+
+// Switches lie normal but for those of a set; the open routes stand in the order of their opening. A frame knows no plan:
+// each call is lent the plan that it is about.
 #[derive(Drop)]
 pub struct Frame {
     reversed: ComponentSet,
     occupied: Sections,
-    routes: [OpenRoute; 8],
-    count: usize,
+    routes: ArrayVec<OpenRoute, MOST_OPEN>,
     given: u16,
-    ghost few: { count ≤ 8 },
-    ghost eight: { length routes ≡ 8 },
 }

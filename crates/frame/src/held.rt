@@ -3,39 +3,25 @@ ghost use Rattle.frame.specs.Calls.{OnRow, Held, Conflicts};
 ghost use Rattle.frame.specs.View.{open_rows};
 
 use crate::open_route::OpenRoute;
+use row::entry;
 
 // Whether the component is on the row.
 fn is_on(row: &[u16], component: u16) -> bool
     ensures { MatchBool result (OnRow row.now component) (OnRow row.now component → ⊥) }
 {
-    for e in row {
-        if *e / 4 == component {
-            return true;
-        }
-    }
-    false
+    row.iter().any(|e| entry::component(*e) == component)
 }
 
 // Whether the component is on one of the open routes.
 pub(crate) fn is_held(routes: &[OpenRoute], component: u16) -> bool
     ensures { MatchBool result (Held (open_rows routes.now) component) (Held (open_rows routes.now) component → ⊥) }
 {
-    for route in routes {
-        if is_on(route.entries(), component) {
-            return true;
-        }
-    }
-    false
+    routes.iter().any(|route| is_on(route.entries(), component))
 }
 
 // Whether the row has a component in common with one of the open routes.
 pub(crate) fn conflicts(routes: &[OpenRoute], row: &[u16]) -> bool
     ensures { MatchBool result (Conflicts (open_rows routes.now) row.now) (Conflicts (open_rows routes.now) row.now → ⊥) }
 {
-    for e in row {
-        if is_held(routes, *e / 4) {
-            return true;
-        }
-    }
-    false
+    row.iter().any(|e| is_held(routes, entry::component(*e)))
 }

@@ -1,4 +1,4 @@
-ghost use Rattle.std.specs.Prelude.{◌≡◌};
+ghost use Rattle.std.specs.Prelude.{◌≡◌, []};
 ghost use Rattle.row.specs.View.{entries};
 
 use row::entries::Entries;
@@ -8,6 +8,18 @@ use row::entries::Entries;
 pub struct OpenRoute {
     pub(crate) serial: u16,
     pub(crate) row: Entries,
+}
+
+// What the frame's free places hold; no slip has the serial 0.
+impl Default for OpenRoute {
+    ghost is_default = { λ r. (r.serial ≡ 0) × (entries r.row ≡ []) };
+
+    fn default() -> OpenRoute {
+        OpenRoute {
+            serial: 0,
+            row: Entries::new(),
+        }
+    }
 }
 
 impl OpenRoute {

@@ -3,7 +3,10 @@ ghost use Rattle.frame.specs.View.{occupied_in};
 
 use sets::set::ComponentSet;
 
-// The sections that are occupied, by number: a straight section by its component, a point section by 512 plus its own.
+// The number of point section 0 among all sections; the smaller numbers are components, of straight sections.
+pub(crate) const FIRST_POINT: u16 = 512;
+
+// The sections that are occupied.
 #[derive(Clone, Copy)]
 pub(crate) struct Sections {
     straights: ComponentSet,
@@ -23,10 +26,10 @@ impl Sections {
     pub(crate) fn contains(&self, section: u16) -> bool
         ensures { result ≡ occupied_in self.now section }
     {
-        if section < 512 {
+        if section < FIRST_POINT {
             self.straights.contains(section)
         } else {
-            self.points.contains(section - 512)
+            self.points.contains(section - FIRST_POINT)
         }
     }
 
@@ -34,20 +37,20 @@ impl Sections {
     pub(crate) fn insert(&mut self, section: u16)
         ensures { (n : ℕ) → occupied_in self.new n ≡ (if nat_lt section 1024 && n == section then true else occupied_in self.old n) }
     {
-        if section < 512 {
+        if section < FIRST_POINT {
             self.straights.insert(section);
         } else {
-            self.points.insert(section - 512);
+            self.points.insert(section - FIRST_POINT);
         }
     }
 
     pub(crate) fn remove(&mut self, section: u16)
         ensures { (n : ℕ) → occupied_in self.new n ≡ (if nat_eq n section then false else occupied_in self.old n) }
     {
-        if section < 512 {
+        if section < FIRST_POINT {
             self.straights.remove(section);
         } else {
-            self.points.remove(section - 512);
+            self.points.remove(section - FIRST_POINT);
         }
     }
 }

@@ -6,7 +6,6 @@ ghost use Rattle.day.specs.Pool.{serials};
 ghost use Rattle.frame_demo.specs.Matched.{Matched};
 
 use crate::plans::{BY_THE_BRANCH, ONE_SWITCH, STRAIGHT_ON, TRACKS, track, tracks};
-use crate::words::{answer_words, order_words};
 use day::orders::{Answer, Order};
 use day::running::{DayEnd, run_day};
 use filed::filed::FiledPlan;
@@ -79,14 +78,13 @@ fn print_day(
 fn all_words(heap: Global, orders: &[Order]) -> Result<Vec<String>, AllocError> {
     let mut words = Vec::new(heap);
     for order in orders {
-        words.push(order_words(heap, order)?)?;
+        words.push(order.to_string(heap)?)?;
     }
     Ok(words)
 }
 
 fn print_answers(rt: &HostRuntime, words: &[String], answers: &[Answer]) -> anyhow::Result<()> {
-    for (order, answer) in words.iter().zip(answers.iter()) {
-        let answer = answer_words(rt.alloc(), answer)?;
+    for (order, answer) in words.iter().zip(answers) {
         println!(rt; "  {order}: {answer}")?;
     }
     Ok(())
@@ -134,47 +132,50 @@ fn close(first: &mut Frame, second: &mut Frame, slip: Slip)
 }
 
 fn one_switch_orders(heap: Global) -> Result<Vec<Order>, AllocError> {
-    let mut orders = Vec::new(heap);
-    orders.push(Order::Turn([7; 7].to_vec(heap)?))?;
-    orders.push(Order::Turn([7; 9].to_vec(heap)?))?;
-    orders.push(Order::Open(BY_THE_BRANCH.to_vec(heap)?))?;
-    orders.push(Order::Throw(3, Position::Reverse))?;
-    orders.push(Order::Open(BY_THE_BRANCH.to_vec(heap)?))?;
-    orders.push(Order::Open(STRAIGHT_ON.to_vec(heap)?))?;
-    orders.push(Order::Throw(3, Position::Normal))?;
-    orders.push(Order::Release(0))?;
-    orders.push(Order::Release(0))?;
-    occupied_orders(heap, &mut orders)?;
+    let mut orders = vec![in heap;
+        turn(heap, 7)?,
+        turn(heap, 9)?,
+        open(heap, &BY_THE_BRANCH)?,
+        Order::Throw(3, Position::Reverse),
+        open(heap, &BY_THE_BRANCH)?,
+        open(heap, &STRAIGHT_ON)?,
+        Order::Throw(3, Position::Normal),
+        Order::Release(0),
+        Order::Release(0),
+    ]?;
+    orders.extend(occupied_orders(heap)?)?;
     Ok(orders)
 }
 
 // What an occupied point section refuses, numbers that name no section or switch, and the end of the register.
-fn occupied_orders(heap: Global, orders: &mut Vec<Order>) -> Result<(), AllocError> {
-    orders.push(Order::Occupy(512))?;
-    orders.push(Order::Throw(3, Position::Normal))?;
-    orders.push(Order::Open(BY_THE_BRANCH.to_vec(heap)?))?;
-    orders.push(Order::Clear(512))?;
-    orders.push(Order::Occupy(513))?;
-    orders.push(Order::Clear(0))?;
-    orders.push(Order::Throw(2, Position::Normal))?;
-    orders.push(Order::Open(BY_THE_BRANCH.to_vec(heap)?))?;
-    orders.push(Order::Open([3, 0, 0, 0, 13, 0, 8, 0].to_vec(heap)?))?;
-    orders.push(Order::Open([3, 0, 0, 0, 13, 0, 4].to_vec(heap)?))?;
-    orders.push(Order::Turn([7; 8].to_vec(heap)?))?;
-    orders.push(Order::Turn([7; 8].to_vec(heap)?))?;
-    orders.push(Order::Restart)?;
-    orders.push(Order::Turn([7; 8].to_vec(heap)?))?;
-    Ok(())
+fn occupied_orders(heap: Global) -> Result<Vec<Order>, AllocError> {
+    Ok(vec![in heap;
+        Order::Occupy(512),
+        Order::Throw(3, Position::Normal),
+        open(heap, &BY_THE_BRANCH)?,
+        Order::Clear(512),
+        Order::Occupy(513),
+        Order::Clear(0),
+        Order::Throw(2, Position::Normal),
+        open(heap, &BY_THE_BRANCH)?,
+        open(heap, &[3, 0, 0, 0, 13, 0, 8, 0])?,
+        open(heap, &[3, 0, 0, 0, 13, 0, 4])?,
+        turn(heap, 8)?,
+        turn(heap, 8)?,
+        Order::Restart,
+        turn(heap, 8)?,
+    ]?)
 }
 
 // A foreign slip closes the route of its serial, and the route's own slip is refused then; and a ninth route.
 fn nine_track_orders(heap: Global) -> Result<Vec<Order>, AllocError> {
-    let mut orders = Vec::new(heap);
-    orders.push(Order::Open(track(heap, 0)?))?;
-    orders.push(Order::Open(track(heap, 1)?))?;
-    orders.push(Order::Release(0))?;
-    orders.push(Order::Release(1))?;
-    orders.push(Order::Release(0))?;
+    let mut orders = vec![in heap;
+        Order::Open(track(heap, 0)?),
+        Order::Open(track(heap, 1)?),
+        Order::Release(0),
+        Order::Release(1),
+        Order::Release(0),
+    ]?;
     for k in 0..TRACKS {
         orders.push(Order::Open(track(heap, k)?))?;
     }
@@ -182,4 +183,13 @@ fn nine_track_orders(heap: Global) -> Result<Vec<Order>, AllocError> {
         orders.push(Order::Release(1))?;
     }
     Ok(orders)
+}
+
+// A turn with a space of so many bytes.
+fn turn(heap: Global, length: usize) -> Result<Order, AllocError> {
+    Ok(Order::Turn(vec![in heap; 7; length]?))
+}
+
+fn open(heap: Global, row: &[u8]) -> Result<Order, AllocError> {
+    Ok(Order::Open(row.to_vec(heap)?))
 }

@@ -3,7 +3,6 @@
 
 mod days;
 mod plans;
-mod words;
 
 use days::print_days;
 

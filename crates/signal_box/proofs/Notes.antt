@@ -21,12 +21,6 @@ use Rattle.signal_box.specs.Slips.{serial_given, unkept}
 use Rattle.signal_box.proofs.Safety.{safe_marked, safe_laid, safe_opened, safe_closed}
 use Rattle.signal_box.proofs.Turns.{turning_ok, turning_err, handed_on}
 
--- a refused release left the box as it was
-pub handed_back : {P : Type 0} (x : SignalBox P) (f : Frame) (slip : Slip) (r : Result (Unit {0}) (BoxFault × Slip)) → IfErr r (λ y. (y.1 ≡ slip) × (f ≡ x.frame))
-    → IfErr r (λ y. (y.1 ≡ slip) × (record { register = x.register; frame = f } ≡ x))
-handed_back x f slip (Ok u) h = tt
-handed_back x f slip (Err y) h = (h.0, ap (λ (z : Frame). record { register = x.register; frame = z }) h.1)
-
 module _ {P : Type 0} (l : Layout) (j : Journal) (x : SignalBox P) (kept : Kept l j x) where
   abbrev with_register : Register P → SignalBox P
   with_register g = record { register = g; frame = x.frame }

@@ -17,11 +17,8 @@ use Rattle.signal_box.specs.Safety.{LiesAs}
 abbrev pub Lie : ℕ → Type 0
 Lie z = (z ≡ 1) ⊎ (z ≡ 2)
 
-no_switch : {X : Type 0} → false ≡ true → X
-no_switch h = let z : ◌≡◌ {A = ℕ} 0 1 = cc in absurd (omega arith)
-
 signal_no_switch : (k : Kind) → IsSignal k → is_switch k ≡ true → ⊥
-signal_no_switch (Signal s) i h = no_switch h
+signal_no_switch (Signal s) i h = cc
 signal_no_switch (Switch b) i h = absurd i
 signal_no_switch Straight i h = absurd i
 
@@ -35,9 +32,9 @@ switch_lie true p z h = h
 switch_lie false p z h = trailing_lie p z h
 
 may_lie : (k : Kind) (p : Side) (z : ℕ) → is_switch k ≡ true → MayLie k p z → Lie z
-may_lie (Signal s) p z h m = no_switch h
+may_lie (Signal s) p z h m = cc
 may_lie (Switch b) p z h m = switch_lie (same_side p (root b)) p z m
-may_lie Straight p z h m = no_switch h
+may_lie Straight p z h m = cc
 
 entered : (l : Layout) (o : Option Port) (e : ℕ) → Enters l o e → is_switch (l.kind (e / 4)) ≡ true → Lie (e % 4)
 entered l None e h s = absurd h

@@ -18,3 +18,8 @@ pub record Kept {P : Type 0} (l : Layout) (j : Journal) (x : SignalBox P) : Type
 pub record Noted {P : Type 0} (l : Layout) (j : Journal) (e : Event) (x : SignalBox P) : Type 0 where
   pub demanded : Demands l j e
   pub kept : Kept l (after j e) x
+
+-- A call that makes one box of another: the plan stays, and for every journal that the box kept before, the call is noted.
+pub record Notes {P : Type 0} (layout : P → Layout) (x : SignalBox P) (e : Event) (y : SignalBox P) : Type 0 where
+  pub plan : y.register.plan ≡ x.register.plan
+  pub noted : (j : Journal) → Kept (layout x.register.plan) j x → Noted (layout x.register.plan) j e y

@@ -4,7 +4,7 @@ ghost use Rattle.frame.specs.View.{view, open_rows};
 
 use super::Frame;
 use crate::open_route::OpenRoute;
-use crate::watching::is_section;
+use crate::watching::known;
 use fault::kinds::BoxFault;
 use plan::interface::Plan;
 use plan::parts::Position;
@@ -15,20 +15,14 @@ impl Frame {
         ensures { result ≡ told_position (P.layout plan.now) (view self.now) switch }
     {
         plan.section(switch)?;
-        if self.reversed.contains(switch) {
-            Ok(Position::Reverse)
-        } else {
-            Ok(Position::Normal)
-        }
+        Ok(self.lie(switch))
     }
 
     // Whether a section of the plan is occupied.
     pub fn is_occupied<P: Plan>(&self, plan: &P, section: u16) -> Result<bool, BoxFault>
         ensures { ToldOccupied (P.layout plan.now) (view self.now) section result }
     {
-        if !is_section(plan, section) {
-            return Err(BoxFault::NoSuchSection);
-        }
+        known(plan, section)?;
         Ok(self.occupied.contains(section))
     }
 
@@ -36,6 +30,17 @@ impl Frame {
     pub fn open_routes(&self) -> &[OpenRoute]
         ensures { open_rows result.now ≡ (view self.now).opened }
     {
-        &self.routes[0..self.count]
+        self.routes.as_slice()
+    }
+
+    // How a switch lies, also one of no plan.
+    pub(crate) fn lie(&self, switch: u16) -> Position
+        ensures { result ≡ (view self.now).position switch }
+    {
+        if self.reversed.contains(switch) {
+            Position::Reverse
+        } else {
+            Position::Normal
+        }
     }
 }

@@ -3,9 +3,8 @@ ghost use Rattle.frame.specs.Book.{fresh};
 ghost use Rattle.frame.specs.View.{view};
 
 use super::Frame;
-use crate::open_route::OpenRoute;
 use crate::sections::Sections;
-use row::entries::Entries;
+use arrayvec::ArrayVec;
 use sets::set::ComponentSet;
 
 impl Frame {
@@ -13,15 +12,10 @@ impl Frame {
     pub fn new() -> Frame
         ensures { view result ≡ fresh }
     {
-        let none = OpenRoute {
-            serial: 0,
-            row: Entries::new(),
-        };
         Frame {
             reversed: ComponentSet::new(),
             occupied: Sections::new(),
-            routes: [none; 8],
-            count: 0,
+            routes: ArrayVec::new(),
             given: 0,
         }
     }

@@ -5,7 +5,7 @@ ghost use Rattle.frame.specs.Tests.{refusal};
 ghost use Rattle.frame.specs.View.{view};
 
 use super::Frame;
-use crate::watching::is_section;
+use crate::watching::known;
 use fault::kinds::BoxFault;
 use plan::interface::Plan;
 
@@ -16,9 +16,7 @@ impl Frame {
         ensures refused { is_ok result ≡ false → self.new ≡ self.old }
         ensures after { is_ok result ≡ true → view self.new ≡ marked (view self.old) section true }
     {
-        if !is_section(plan, section) {
-            return Err(BoxFault::NoSuchSection);
-        }
+        known(plan, section)?;
         self.occupied.insert(section);
         Ok(())
     }
@@ -29,9 +27,7 @@ impl Frame {
         ensures refused { is_ok result ≡ false → self.new ≡ self.old }
         ensures after { is_ok result ≡ true → view self.new ≡ marked (view self.old) section false }
     {
-        if !is_section(plan, section) {
-            return Err(BoxFault::NoSuchSection);
-        }
+        known(plan, section)?;
         self.occupied.remove(section);
         Ok(())
     }

@@ -1,4 +1,5 @@
-ghost use Rattle.std.specs.Prelude.{◌≡◌, ◌+◌, ◌/◌, ◌%◌, ◌<◌, true, false, is_ok, IfOk, MatchBool};
+ghost use Rattle.std.specs.Prelude.{◌≡◌, ◌+◌, ◌/◌, ◌%◌, ◌<◌, true, false, is_ok, IfOk, OnOk, MatchBool};
+ghost use Rattle.arrayvec.specs.ArrayVec.{array_vec_len};
 ghost use Rattle.row.specs.Row.{entries_of};
 ghost use Rattle.row.specs.View.{entries};
 ghost use Rattle.frame.specs.Book.{opened_with};
@@ -15,6 +16,7 @@ use fault::kinds::BoxFault;
 use judging::judgement::judge;
 use plan::interface::Plan;
 use row::entries::Entries;
+use row::entry;
 use row::reading::read_row;
 
 // How many slips a frame gives.
@@ -30,11 +32,10 @@ impl Frame {
     {
         let entries = self.admit(plan, row)?;
         let serial = self.given + 1;
-        self.routes[self.count] = OpenRoute {
+        self.routes.push(OpenRoute {
             serial,
             row: entries,
-        };
-        self.count += 1;
+        });
         self.given = serial;
         Ok(Slip { serial })
     }
@@ -43,77 +44,61 @@ impl Frame {
     fn admit<P: Plan>(&self, plan: &P, row: &[u8]) -> Result<Entries, BoxFault>
         ensures told { Opening (P.layout plan.now) (view self.now) row.now (refusal result) }
         ensures entries { IfOk result (λ x. entries x ≡ entries_of row.now) }
+        ensures room { OnOk result (array_vec_len self.now.routes < 8) }
     {
         judge(plan, row)?;
         let entries = read_row(row)?;
-        match self.hindrance(plan, entries.as_slice()) {
-            Some(fault) => Err(fault),
-            None => Ok(entries),
-        }
+        self.unhindered(plan, entries.as_slice())?;
+        Ok(entries)
     }
 
-    // What on the frame hinders the route from being opened.
-    fn hindrance<P: Plan>(&self, plan: &P, route: &[u16]) -> Option<BoxFault>
-        ensures { Standing (P.layout plan.now) (view self.now) route.now result }
+    // Refuses a route that something on the frame hinders from being opened.
+    fn unhindered<P: Plan>(&self, plan: &P, route: &[u16]) -> Result<(), BoxFault>
+        ensures told { Standing (P.layout plan.now) (view self.now) route.now (refusal result) }
+        ensures room { OnOk result (array_vec_len self.now.routes < 8) }
     {
         if conflicts(self.open_routes(), route) {
-            return Some(BoxFault::Conflict);
+            return Err(BoxFault::Conflict);
         }
         if self.lies_otherwise(route) {
-            return Some(BoxFault::OtherPosition);
+            return Err(BoxFault::OtherPosition);
         }
         if self.runs_occupied(plan, route) {
-            return Some(BoxFault::Occupied);
+            return Err(BoxFault::Occupied);
         }
-        if self.count == 8 {
-            return Some(BoxFault::FrameFull);
+        if self.routes.is_full() {
+            return Err(BoxFault::FrameFull);
         }
         if self.given == MOST_SLIPS {
-            return Some(BoxFault::SlipsSpent);
+            return Err(BoxFault::SlipsSpent);
         }
-        None
+        Ok(())
     }
 
     // Whether a switch lies otherwise than an entry of the row has it.
     fn lies_otherwise(&self, row: &[u16]) -> bool
         ensures { MatchBool result (LiesOtherwise (view self.now) row.now) (LiesOtherwise (view self.now) row.now → ⊥) }
     {
-        for e in row {
-            if self.is_against(*e) {
-                return true;
-            }
-        }
-        false
+        row.iter().any(|e| self.is_against(*e))
     }
 
     fn is_against(&self, e: u16) -> bool
         ensures { MatchBool result (Against ((view self.now).position (e / 4)) (e % 4)) (Against ((view self.now).position (e / 4)) (e % 4) → ⊥) }
     {
-        if self.reversed.contains(e / 4) {
-            e % 4 == 1
-        } else {
-            e % 4 == 2
-        }
+        entry::lie(e).is_some_and(|wanted| wanted != self.lie(entry::component(e)))
     }
 
     // Whether the row runs over an occupied section.
     fn runs_occupied<P: Plan>(&self, plan: &P, row: &[u16]) -> bool
         ensures { MatchBool result (RunsOccupied (P.layout plan.now) (view self.now) row.now) (RunsOccupied (P.layout plan.now) (view self.now) row.now → ⊥) }
     {
-        for e in row {
-            if self.is_on_occupied(plan, *e / 4) {
-                return true;
-            }
-        }
-        false
+        row.iter()
+            .any(|e| self.is_on_occupied(plan, entry::component(*e)))
     }
 
     fn is_on_occupied<P: Plan>(&self, plan: &P, component: u16) -> bool
         ensures { MatchBool result (OnOccupied (P.layout plan.now) (view self.now) component) (OnOccupied (P.layout plan.now) (view self.now) component → ⊥) }
     {
-        let Some(section) = section_of(plan, component) else {
-            return false;
-        };
-        self.occupied.contains(section)
+        section_of(plan, component).is_some_and(|section| self.occupied.contains(section))
     }
 }

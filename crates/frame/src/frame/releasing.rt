@@ -1,5 +1,4 @@
-ghost use Rattle.std.specs.Prelude.{◌≡◌, ◌<◌, true, take, is_ok, IfErr};
-ghost use Rattle.std.specs.List.{remove};
+ghost use Rattle.std.specs.Prelude.{◌≡◌, true, is_ok, IfErr};
 ghost use Rattle.frame.specs.Book.{closed_at};
 ghost use Rattle.frame.specs.Calls.{Releasing};
 ghost use Rattle.frame.specs.Placed.{Placed};
@@ -15,12 +14,7 @@ use fault::kinds::BoxFault;
 fn place(routes: &[OpenRoute], serial: u16) -> Option<usize>
     ensures { Placed (open_rows routes.now) serial result }
 {
-    for (i, route) in routes.iter().enumerate() {
-        if route.serial == serial {
-            return Some(i);
-        }
-    }
-    None
+    routes.iter().position(|route| route.serial == serial)
 }
 
 impl Frame {
@@ -30,28 +24,11 @@ impl Frame {
         ensures kept { IfErr result (λ y. (y.1 ≡ slip) × (self.new ≡ self.old)) }
         ensures after { is_ok result ≡ true → view self.new ≡ closed_at (view self.old) slip.serial }
     {
-        match place(self.open_routes(), slip.serial) {
-            None => Err((BoxFault::UnknownSlip, slip)),
-            Some(i) => {
-                let Slip { serial: _ } = slip;
-                self.close(i);
-                Ok(())
-            }
-        }
-    }
-
-    // Takes the route at the place out; those behind it move up.
-    fn close(&mut self, i: usize)
-        requires { i < self.old.count }
-        ensures routes { take self.new.count self.new.routes ≡ remove (take self.old.count self.old.routes) i }
-        ensures reversed { self.new.reversed ≡ self.old.reversed }
-        ensures occupied { self.new.occupied ≡ self.old.occupied }
-        ensures given { self.new.given ≡ self.old.given }
-    {
-        let last = self.count - 1;
-        for j in i..last {
-            self.routes[j] = self.routes[j + 1];
-        }
-        self.count = last;
+        let Some(i) = place(self.open_routes(), slip.serial) else {
+            return Err((BoxFault::UnknownSlip, slip));
+        };
+        let Slip { serial: _ } = slip;
+        self.routes.remove(i);
+        Ok(())
     }
 }

@@ -6,6 +6,7 @@ ghost use Rattle.frame.specs.View.{view};
 
 use super::Frame;
 use crate::held::is_held;
+use crate::watching::point_section;
 use fault::kinds::BoxFault;
 use plan::interface::Plan;
 use plan::parts::Position;
@@ -17,11 +18,11 @@ impl Frame {
         ensures refused { is_ok result ≡ false → self.new ≡ self.old }
         ensures after { is_ok result ≡ true → view self.new ≡ laid (view self.old) switch to }
     {
-        let section = plan.section(switch)?;
+        let section = point_section(plan, switch)?;
         if is_held(self.open_routes(), switch) {
             return Err(BoxFault::Conflict);
         }
-        if self.occupied.contains(512 + section) {
+        if self.occupied.contains(section) {
             return Err(BoxFault::Occupied);
         }
         self.lay(switch, to);

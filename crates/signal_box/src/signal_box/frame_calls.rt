@@ -1,7 +1,6 @@
 ghost use Rattle.std.specs.Prelude.{◌≡◌, false, is_ok, IfErr};
-ghost use Rattle.signal_box.specs.Journal.{Journal};
 ghost use Rattle.signal_box.specs.Journal.Event.{Thrown, Occupied, Cleared, Opened, Released};
-ghost use Rattle.signal_box.specs.Kept.{Kept, Noted};
+ghost use Rattle.signal_box.specs.Kept.{Notes};
 ghost use Rattle.signal_box.specs.Slips.{serial_given, unkept};
 
 use super::SignalBox;
@@ -13,45 +12,40 @@ use plan::parts::Position;
 impl<P: Plan> SignalBox<P> {
     // Lays a switch.
     pub fn throw(&mut self, switch: u16, to: Position) -> Result<(), BoxFault>
-        ensures plan { self.new.register.plan ≡ self.old.register.plan }
         ensures refused { is_ok result ≡ false → self.new ≡ self.old }
-        ensures journal { (j : Journal) → Kept (P.layout self.old.register.plan) j self.old → Noted (P.layout self.old.register.plan) j (Thrown switch to result) self.new }
+        ensures journal { Notes P.layout self.old (Thrown switch to result) self.new }
     {
         self.frame.throw(self.register.plan(), switch, to)
     }
 
     // A train is in the section.
     pub fn occupy(&mut self, section: u16) -> Result<(), BoxFault>
-        ensures plan { self.new.register.plan ≡ self.old.register.plan }
         ensures refused { is_ok result ≡ false → self.new ≡ self.old }
-        ensures journal { (j : Journal) → Kept (P.layout self.old.register.plan) j self.old → Noted (P.layout self.old.register.plan) j (Occupied section result) self.new }
+        ensures journal { Notes P.layout self.old (Occupied section result) self.new }
     {
         self.frame.occupy(self.register.plan(), section)
     }
 
     // No train is in the section.
     pub fn clear(&mut self, section: u16) -> Result<(), BoxFault>
-        ensures plan { self.new.register.plan ≡ self.old.register.plan }
         ensures refused { is_ok result ≡ false → self.new ≡ self.old }
-        ensures journal { (j : Journal) → Kept (P.layout self.old.register.plan) j self.old → Noted (P.layout self.old.register.plan) j (Cleared section result) self.new }
+        ensures journal { Notes P.layout self.old (Cleared section result) self.new }
     {
         self.frame.clear(self.register.plan(), section)
     }
 
     // Opens a row and gives the slip that closes it.
     pub fn open(&mut self, row: &[u8]) -> Result<Slip, BoxFault>
-        ensures plan { self.new.register.plan ≡ self.old.register.plan }
         ensures refused { is_ok result ≡ false → self.new ≡ self.old }
-        ensures journal { (j : Journal) → Kept (P.layout self.old.register.plan) j self.old → Noted (P.layout self.old.register.plan) j (Opened row.now (serial_given result)) self.new }
+        ensures journal { Notes P.layout self.old (Opened row.now (serial_given result)) self.new }
     {
         self.frame.open(self.register.plan(), row)
     }
 
     // Closes the route of the slip, or hands the slip back where no open route has its serial.
     pub fn release(&mut self, slip: Slip) -> Result<(), (BoxFault, Slip)>
-        ensures plan { self.new.register.plan ≡ self.old.register.plan }
         ensures kept { IfErr result (λ y. (y.1 ≡ slip) × (self.new ≡ self.old)) }
-        ensures journal { (j : Journal) → Kept (P.layout self.old.register.plan) j self.old → Noted (P.layout self.old.register.plan) j (Released slip.serial (unkept result)) self.new }
+        ensures journal { Notes P.layout self.old (Released slip.serial (unkept result)) self.new }
     {
         self.frame.release(slip)
     }

@@ -1,7 +1,7 @@
 ghost use Rattle.std.specs.Prelude.{◌≡◌, false, is_ok};
-ghost use Rattle.signal_box.specs.Journal.{Journal, unwritten};
+ghost use Rattle.signal_box.specs.Journal.{unwritten};
 ghost use Rattle.signal_box.specs.Journal.Event.{Turned, Restarted};
-ghost use Rattle.signal_box.specs.Kept.{Kept, Noted};
+ghost use Rattle.signal_box.specs.Kept.{Kept, Notes};
 ghost use Rattle.signal_box.specs.OneAnswer.{OneAnswer};
 
 use super::SignalBox;
@@ -32,17 +32,15 @@ impl<P: Plan> SignalBox<P> {
 
     // Writes the next route's row at the front of the space and answers its length in bytes.
     pub fn turn(&mut self, space: &mut [u8]) -> Result<usize, BoxFault>
-        ensures plan { self.new.register.plan ≡ self.old.register.plan }
         ensures refused { is_ok result ≡ false → (self.new ≡ self.old) × (space.new ≡ space.old) }
-        ensures journal { (j : Journal) → Kept (P.layout self.old.register.plan) j self.old → Noted (P.layout self.old.register.plan) j (Turned space.old space.new result) self.new }
+        ensures journal { Notes P.layout self.old (Turned space.old space.new result) self.new }
     {
         self.register.turn(space)
     }
 
     // The register stands before the first route again.
     pub fn restart(&mut self)
-        ensures plan { self.new.register.plan ≡ self.old.register.plan }
-        ensures journal { (j : Journal) → Kept (P.layout self.old.register.plan) j self.old → Noted (P.layout self.old.register.plan) j Restarted self.new }
+        ensures journal { Notes P.layout self.old Restarted self.new }
     {
         self.register.restart();
     }

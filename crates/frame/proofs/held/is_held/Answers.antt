@@ -1,27 +1,12 @@
-use Rattle.std.proofs.Common.{ℕ, ◌<◌, List, length, get_or, sym, subst, arith, below_more}
-use Rattle.std.proofs.lemmas.List.{length-map}
-use Rattle.frame.specs.Calls.{OnRow, no_row}
-use Rattle.frame.specs.View.{open_row, open_rows}
-use Rattle.frame.proofs.Opens.{entries_at}
+use Rattle.std.proofs.Common.{rules}
+use borrow.Author.Tests.{tests}
+use Rattle.std.proofs.lemmas.Iterator.{YieldsList-from_slice, cases_from_any}
+use Rattle.frame.proofs.Opens.{OnRoute, held}
 use Rattle.frame.proofs.held.is_held.Goals as goal
 
-pub returns-then-is_on : goal.returns-then-is_on
-returns-then-is_on c =
-    let rs = c.args.routes.now in
-    let h : c.loop-route.route-index < length rs = omega arith in
-    let F : List ℕ → Type 0 = λ es. OnRow es c.args.component in
-    (c.loop-route.route-index, simp length-map h, subst F (entries_at rs _ c.route-item.result _ h c.route-item.is c.entries.ensures) c.if-is_on.ensures)
-
-pub loop-route-preserved : goal.loop-route-preserved
-loop-route-preserved c =
-    let rs = c.args.routes.now in
-    let h : c.loop-route.route-index < length rs = omega arith in
-    let F : List ℕ → Type 0 = λ es. OnRow es c.args.component in
-    below_more (λ k. OnRow (get_or (open_rows rs) k no_row).entries c.args.component → ⊥) _ c.loop-route.invariant
-    (λ on. c.if-is_on.ensures (subst F (sym (entries_at rs _ c.route-item.result _ h c.route-item.is c.entries.ensures)) on))
-
 pub returns : goal.returns
-returns c = λ h.
-    let n = length-map c.args.routes.now open_row in
-    let k = h.1 in
-    c.loop-route.invariant h.0 (omega arith) h.2
+returns c =
+    let rs = c.args.routes.now in
+    let s = c.args.component in
+    held rs s c.any.result
+    (cases_from_any _ _ _ (OnRoute s) (λ x. OnRoute s x → ⊥) c.any.ensures.ran (YieldsList-from_slice rs cc) (λ x q k. search (rules, tests)) (λ x q k. search (rules, tests)))

@@ -1,17 +1,9 @@
-use Rattle.std.proofs.Common.{refl, ap, subst}
-use Rattle.frame.specs.declared.frame.Frame.{Frame}
-use Rattle.frame.specs.Calls.{Marking}
-use Rattle.frame.specs.Tests.{refusal}
+use Rattle.std.proofs.Common.{refl}
 use Rattle.signal_box.proofs.Notes.{cleared}
 use Rattle.signal_box.proofs.signal_box.SignalBox.clear.Goals as goal
 
-pub returns : goal.returns
-returns g c =
-    let x = c.args.self.now in
+pub returns-clause-journal : goal.returns-clause-journal
+returns-clause-journal g c =
     let e = c.clear.ensures in
-    let T : g.row.P.Denot → Type 0 = λ q. Marking (g.P.Plan.layout q) c.args.section (refusal c.clear.result) in
-    record {
-      plan = refl;
-      refused = λ h. ap (λ (f : Frame). record { register = x.register; frame = f }) (e.refused h);
-      journal = λ j kept. cleared _ j x kept c.clear.new.self c.args.section c.clear.result (subst T c.plan.ensures e.told) e.refused e.after;
-    }
+    let told = rw c.plan.ensures at e.told in
+    record { plan = refl; noted = λ j kept. cleared _ j c.args.self.now kept _ _ _ told e.refused e.after }

@@ -1,17 +1,9 @@
-use Rattle.std.proofs.Common.{refl, ap, subst}
-use Rattle.frame.specs.declared.frame.Frame.{Frame}
-use Rattle.frame.specs.Calls.{Marking}
-use Rattle.frame.specs.Tests.{refusal}
+use Rattle.std.proofs.Common.{refl}
 use Rattle.signal_box.proofs.Notes.{occupied}
 use Rattle.signal_box.proofs.signal_box.SignalBox.occupy.Goals as goal
 
-pub returns : goal.returns
-returns g c =
-    let x = c.args.self.now in
+pub returns-clause-journal : goal.returns-clause-journal
+returns-clause-journal g c =
     let e = c.occupy.ensures in
-    let T : g.row.P.Denot → Type 0 = λ q. Marking (g.P.Plan.layout q) c.args.section (refusal c.occupy.result) in
-    record {
-      plan = refl;
-      refused = λ h. ap (λ (f : Frame). record { register = x.register; frame = f }) (e.refused h);
-      journal = λ j kept. occupied _ j x kept c.occupy.new.self c.args.section c.occupy.result (subst T c.plan.ensures e.told) e.refused e.after;
-    }
+    let told = rw c.plan.ensures at e.told in
+    record { plan = refl; noted = λ j kept. occupied _ j c.args.self.now kept _ _ _ told e.refused e.after }

@@ -1,18 +1,9 @@
-use Rattle.std.proofs.Common.{refl, ap, subst}
-use Rattle.frame.specs.declared.frame.Frame.{Frame}
-use Rattle.frame.specs.Calls.{Opening}
-use Rattle.frame.specs.Tests.{refusal}
-use Rattle.frame.specs.View.{view}
+use Rattle.std.proofs.Common.{refl}
 use Rattle.signal_box.proofs.Notes.{opened}
 use Rattle.signal_box.proofs.signal_box.SignalBox.open.Goals as goal
 
-pub returns : goal.returns
-returns g c =
-    let x = c.args.self.now in
+pub returns-clause-journal : goal.returns-clause-journal
+returns-clause-journal g c =
     let e = c.open.ensures in
-    let T : g.row.P.Denot → Type 0 = λ q. Opening (g.P.Plan.layout q) (view x.frame) c.args.row.now (refusal c.open.result) in
-    record {
-      plan = refl;
-      refused = λ h. ap (λ (f : Frame). record { register = x.register; frame = f }) (e.refused h);
-      journal = λ j kept. opened _ j x kept c.open.new.self c.args.row.now c.open.result (subst T c.plan.ensures e.told) e.serial e.refused e.after;
-    }
+    let told = rw c.plan.ensures at e.told in
+    record { plan = refl; noted = λ j kept. opened _ j c.args.self.now kept _ _ _ told e.serial e.refused e.after }

@@ -1,13 +1,8 @@
 use Rattle.std.proofs.Common.{refl}
-use Rattle.signal_box.proofs.Notes.{handed_back, released}
+use Rattle.signal_box.proofs.Notes.{released}
 use Rattle.signal_box.proofs.signal_box.SignalBox.release.Goals as goal
 
-pub returns : goal.returns
-returns g c =
-    let x = c.args.self.now in
+pub returns-clause-journal : goal.returns-clause-journal
+returns-clause-journal g c =
     let e = c.release.ensures in
-    record {
-      plan = refl;
-      kept = handed_back x c.release.new.self c.args.slip c.release.result e.kept;
-      journal = λ j kept. released _ j x kept c.release.new.self c.args.slip c.release.result e.told e.kept e.after;
-    }
+    record { plan = refl; noted = λ j kept. released _ j c.args.self.now kept _ _ _ e.told e.kept e.after }
