@@ -1,5 +1,6 @@
-use crate::stations::ONE_SWITCH;
+use fault::kinds::Told;
 use file::look::look_over;
+use stations::ONE_SWITCH;
 
 // Another byte at one offset of the one-switch station.
 const DAMAGES: [(usize, u8); 54] = [
@@ -69,10 +70,8 @@ pub fn print_damages(rt: &HostRuntime) -> anyhow::Result<()> {
         match look_over(&file) {
             Ok(()) => println!(rt; "byte {offset} is {byte}: good")?,
             Err(fault) => {
-                let told = fault.tell();
-                let number = told.number;
-                let place = told.place;
-                println!(rt; "byte {offset} is {byte}: {number} at {place}")?;
+                let told = Told::from(fault);
+                println!(rt; "byte {offset} is {byte}: {told}")?;
             }
         }
     }

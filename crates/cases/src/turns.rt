@@ -1,6 +1,7 @@
-use crate::stations::ONE_SWITCH;
+use fault::kinds::Told;
 use filed::filed::FiledPlan;
 use register::registers::Register;
+use stations::ONE_SWITCH;
 
 // Prints what a turn answers, and what the space holds then.
 fn print_turn(
@@ -11,7 +12,7 @@ fn print_turn(
     match register.turn(space) {
         Ok(length) => print!(rt; "{length} bytes:")?,
         Err(fault) => {
-            let number = fault.tell().number;
+            let number = Told::from(fault).number;
             print!(rt; "refused {number}:")?;
         }
     }

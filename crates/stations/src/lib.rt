@@ -1,3 +1,6 @@
+// Two stations as plan files, for the programs of examples.
+#![tactic(auto)]
+
 // Three signals and one switch.
 pub const ONE_SWITCH: [u8; 34] = [
     3, 0, 255, 255, 12, 0, 69, 13, 0, 255, 255, 69, 14, 0, 255, 255, 69, 1, 0, 1, 0, 4, 0, 8, 0,
