@@ -5,11 +5,12 @@ mod input;
 mod output;
 
 use anyhow::anyhow;
-use fault::kinds::BoxFault;
+use fault::kinds::{BoxFault, Told};
 use file::look::look_over;
 use filed::filed::FiledPlan;
 use input::read_file;
-use output::{Closing, Output};
+use lines::closing::Closing;
+use output::Output;
 use register::registers::Register;
 
 // One turn more than a register has rows to hand out: the last one is always refused.
@@ -46,7 +47,7 @@ fn run(rt: &HostRuntime) -> anyhow::Result<()> {
     match look_over(file) {
         Ok(()) => print_rows(file, &mut output),
         Err(fault) => {
-            let told = fault.tell();
+            let told = Told::from(fault);
             output.close(Closing::Refused(told.number, told.place))
         }
     }
