@@ -1,28 +1,10 @@
 // The one-switch file, field by field, as docs/FORMAT.md reads it.
 
-use crate::stations::ONE_SWITCH;
 use crate::tally::Tally;
 use filed::filed::FiledPlan;
 use plan::interface::Plan;
 use plan::parts::{Direction, Kind, Port, Side};
-
-fn at(component: u16, side: Side) -> Port {
-    Port { component, side }
-}
-
-fn is_kind<P: Plan>(plan: &P, component: u16, kind: Kind) -> bool {
-    match plan.kind(component) {
-        Ok(told) => told == kind,
-        Err(_) => false,
-    }
-}
-
-fn is_blank<P: Plan>(plan: &P, port: Port) -> bool {
-    match plan.far(port) {
-        Ok(far) => far.is_none(),
-        Err(_) => false,
-    }
-}
+use stations::ONE_SWITCH;
 
 // Whether each of the two ports is the other's far port.
 fn are_connected<P: Plan>(plan: &P, a: Port, b: Port) -> bool {
@@ -30,65 +12,52 @@ fn are_connected<P: Plan>(plan: &P, a: Port, b: Port) -> bool {
 }
 
 fn leads_to<P: Plan>(plan: &P, port: Port, far: Port) -> bool {
-    match plan.far(port) {
-        Ok(Some(told)) => told == far,
-        _ => false,
-    }
+    plan.far(port) == Ok(Some(far))
 }
 
-fn hold_components<P: Plan>(rt: &HostRuntime, tally: &mut Tally, plan: &P) -> anyhow::Result<()> {
+fn hold_components<P: Plan>(tally: &mut Tally<'_>, plan: &P) -> anyhow::Result<()> {
     let signal = Kind::Signal(Direction::East);
-    tally.hold(rt, "four components", plan.count() == 4)?;
-    tally.hold(rt, "component 0, letter E", is_kind(plan, 0, signal))?;
-    tally.hold(rt, "component 1, letter E", is_kind(plan, 1, signal))?;
-    tally.hold(rt, "component 2, letter E", is_kind(plan, 2, signal))?;
+    tally.hold("four components", plan.count() == 4)?;
+    tally.hold("component 0, letter E", plan.kind(0) == Ok(signal))?;
+    tally.hold("component 1, letter E", plan.kind(1) == Ok(signal))?;
+    tally.hold("component 2, letter E", plan.kind(2) == Ok(signal))?;
     let switch = Kind::Switch(Direction::East);
-    tally.hold(rt, "component 3, letter E", is_kind(plan, 3, switch))?;
-    let in_section_0 = match plan.section(3) {
-        Ok(section) => section == 0,
-        Err(_) => false,
-    };
-    tally.hold(rt, "component 3, point section 0", in_section_0)
+    tally.hold("component 3, letter E", plan.kind(3) == Ok(switch))?;
+    tally.hold("component 3, point section 0", plan.section(3) == Ok(0))
 }
 
-fn hold_ports<P: Plan>(rt: &HostRuntime, tally: &mut Tally, plan: &P) -> anyhow::Result<()> {
-    let root = at(3, Side::West);
-    let straight = at(3, Side::East);
-    let branch = at(3, Side::Branch);
+fn hold_ports<P: Plan>(tally: &mut Tally<'_>, plan: &P) -> anyhow::Result<()> {
+    let root = Side::West.of(3);
+    let straight = Side::East.of(3);
+    let branch = Side::Branch.of(3);
     tally.hold(
-        rt,
         "component 0, west: blank",
-        is_blank(plan, at(0, Side::West)),
+        plan.far(Side::West.of(0)) == Ok(None),
     )?;
     tally.hold(
-        rt,
         "component 0, east: west port of the switch",
-        are_connected(plan, at(0, Side::East), root),
+        are_connected(plan, Side::East.of(0), root),
     )?;
     tally.hold(
-        rt,
         "component 1, west: east port of the switch",
-        are_connected(plan, at(1, Side::West), straight),
+        are_connected(plan, Side::West.of(1), straight),
     )?;
     tally.hold(
-        rt,
         "component 1, east: blank",
-        is_blank(plan, at(1, Side::East)),
+        plan.far(Side::East.of(1)) == Ok(None),
     )?;
     tally.hold(
-        rt,
         "component 2, west: branch of the switch",
-        are_connected(plan, at(2, Side::West), branch),
+        are_connected(plan, Side::West.of(2), branch),
     )?;
     tally.hold(
-        rt,
         "component 2, east: blank",
-        is_blank(plan, at(2, Side::East)),
+        plan.far(Side::East.of(2)) == Ok(None),
     )
 }
 
-pub fn hold_fields(rt: &HostRuntime, tally: &mut Tally) -> anyhow::Result<()> {
+pub fn hold_fields(tally: &mut Tally<'_>) -> anyhow::Result<()> {
     let plan = FiledPlan::take(&ONE_SWITCH);
-    hold_components(rt, tally, &plan)?;
-    hold_ports(rt, tally, &plan)
+    hold_components(tally, &plan)?;
+    hold_ports(tally, &plan)
 }

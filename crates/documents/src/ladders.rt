@@ -1,4 +1,5 @@
 use anyhow::anyhow;
+use fault::kinds::Told;
 use filed::filed::FiledPlan;
 use register::registers::Register;
 
@@ -69,7 +70,7 @@ fn print_rest(
         let Err(fault) = register.turn(space) else {
             continue;
         };
-        let number = fault.tell().number;
+        let number = Told::from(fault).number;
         println!(rt; "{count} rows, then refused {number}")?;
         return Ok(());
     }

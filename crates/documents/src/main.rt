@@ -6,7 +6,6 @@ mod fields;
 mod ladders;
 mod refusals;
 mod registers;
-mod stations;
 mod tally;
 
 use fields::hold_fields;
@@ -25,11 +24,11 @@ fn print_proved(rt: &HostRuntime) -> anyhow::Result<()> {
 
 // The examples of the documents: each is compared with what the document says, and counted.
 fn print_documents(rt: &HostRuntime) -> anyhow::Result<()> {
-    let mut tally = Tally::new();
-    hold_fields(rt, &mut tally)?;
+    let mut tally = Tally::new(rt);
+    hold_fields(&mut tally)?;
     hold_registers(rt, &mut tally)?;
-    hold_refusals(rt, &mut tally)?;
-    tally.print(rt)
+    hold_refusals(&mut tally)?;
+    tally.print()
 }
 
 fn run(rt: &HostRuntime) -> anyhow::Result<()> {

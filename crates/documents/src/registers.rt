@@ -1,17 +1,18 @@
 // The registers that README.md, docs/FORMAT.md and docs/ROUTES.md show, as texts.
 
-use crate::stations::{FOURTEEN, ONE_SWITCH};
 use crate::tally::Tally;
 use anyhow::anyhow;
+use fault::kinds::BoxFault;
 use filed::filed::FiledPlan;
-use lines::counts::write_end;
+use lines::closing::Closing;
 use lines::rows::write_row_line;
 use register::registers::Register;
+use stations::{FOURTEEN, ONE_SWITCH};
 
-// Each longer than any row, text and register of these stations.
+// Each longer than any row, line and register of these stations.
 const ROW: usize = 32;
 
-const TEXT: usize = 512;
+const LINE: usize = 64;
 
 const TURNS: usize = 64;
 
@@ -31,60 +32,51 @@ const TWO_LEGS: [u8; 38] = [
     10, 0, 87, 0, 0, 0, 0, 1, 0, 2, 0,
 ];
 
-// Writes the line of the row behind what is used of the text, and answers how much is used then.
-fn put_row(row: &[u8], text: &mut [u8], used: usize) -> anyhow::Result<usize> {
-    if used > text.len() {
-        return Err(anyhow!("a text is longer than its space"));
-    }
-    let Ok(length) = write_row_line(row, &mut text[used..]) else {
-        return Err(anyhow!("a line does not fit the text"));
+// Appends what was written of a line.
+fn append(text: &mut Vec<u8>, line: &[u8], written: Result<usize, BoxFault>) -> anyhow::Result<()> {
+    let Ok(length) = written else {
+        return Err(anyhow!("a line was refused"));
     };
-    Ok(used.saturating_add(length))
+    let Some(shown) = line.get(0..length) else {
+        return Err(anyhow!("a line is longer than its space"));
+    };
+    text.extend_from_slice(shown)?;
+    Ok(())
 }
 
-fn put_end(count: usize, text: &mut [u8], used: usize) -> anyhow::Result<usize> {
-    if used > text.len() {
-        return Err(anyhow!("a text is longer than its space"));
-    }
-    let Ok(length) = write_end(count, &mut text[used..]) else {
-        return Err(anyhow!("a line does not fit the text"));
-    };
-    Ok(used.saturating_add(length))
-}
-
-// Writes the register of the file as text, and answers its length.
-fn put_register(file: &[u8], text: &mut [u8]) -> anyhow::Result<usize> {
+// The register of the file as text.
+fn register_text(rt: &HostRuntime, file: &[u8]) -> anyhow::Result<Vec<u8>> {
+    let mut text = Vec::new(rt.alloc());
     let mut register = Register::new(FiledPlan::take(file));
     let mut space = [0; ROW];
-    let mut used = 0;
+    let mut line = [0; LINE];
     for count in 0..TURNS {
         let Ok(length) = register.turn(&mut space) else {
-            return put_end(count, text, used);
+            let written = Closing::End(count).write(&mut line);
+            append(&mut text, &line, written)?;
+            return Ok(text);
         };
         let Some(row) = space.get(0..length) else {
             return Err(anyhow!("a row is longer than its space"));
         };
-        used = put_row(row, text, used)?;
+        let written = write_row_line(row, &mut line);
+        append(&mut text, &line, written)?;
     }
     Err(anyhow!("a register has more rows than the documents show"))
 }
 
 fn hold_register(
     rt: &HostRuntime,
-    tally: &mut Tally,
+    tally: &mut Tally<'_>,
     name: &str,
     file: &[u8],
     shown: &[u8],
 ) -> anyhow::Result<()> {
-    let mut text = [0; TEXT];
-    let length = put_register(file, &mut text)?;
-    let Some(printed) = text.get(0..length) else {
-        return Err(anyhow!("a text is longer than its space"));
-    };
-    tally.hold(rt, name, printed == shown)
+    let text = register_text(rt, file)?;
+    tally.hold(name, text.as_slice() == shown)
 }
 
-pub fn hold_registers(rt: &HostRuntime, tally: &mut Tally) -> anyhow::Result<()> {
+pub fn hold_registers(rt: &HostRuntime, tally: &mut Tally<'_>) -> anyhow::Result<()> {
     hold_register(
         rt,
         tally,

@@ -2,17 +2,19 @@
 use anyhow::anyhow;
 
 #[derive(Drop)]
-pub struct Tally {
+pub struct Tally<'a> {
+    rt: &'a HostRuntime,
     count: usize,
 }
 
-impl Tally {
-    pub fn new() -> Tally {
-        Tally { count: 0 }
+impl<'a> Tally<'a> {
+    pub fn new(rt: &'a HostRuntime) -> Tally<'a> {
+        Tally { rt, count: 0 }
     }
 
     // Prints that the example is right. One that is not ends the program with an error.
-    pub fn hold(&mut self, rt: &HostRuntime, name: &str, right: bool) -> anyhow::Result<()> {
+    pub fn hold(&mut self, name: &str, right: bool) -> anyhow::Result<()> {
+        let rt = self.rt;
         if !right {
             println!(rt; "{name}: wrong")?;
             return Err(anyhow!("an example of the documents came out otherwise"));
@@ -22,8 +24,8 @@ impl Tally {
         Ok(())
     }
 
-    pub fn print(&self, rt: &HostRuntime) -> anyhow::Result<()> {
-        let count = self.count;
+    pub fn print(&self) -> anyhow::Result<()> {
+        let (rt, count) = (self.rt, self.count);
         println!(rt; "examples of the documents: {count}")?;
         Ok(())
     }
