@@ -1,6 +1,7 @@
 use crate::answers::{prepared, print_far, print_number};
-use crate::trial::{east, unused, west};
+use crate::trial::unused;
 use fault::kinds::PlanFault;
+use plan::parts::Side;
 use sheet::sheet::Sheet;
 
 fn print_space_for_three(rt: &HostRuntime) -> anyhow::Result<()> {
@@ -34,7 +35,7 @@ fn print_no_space(rt: &HostRuntime) -> anyhow::Result<()> {
 fn draw_pair(sheet: &mut Sheet<'_>) -> Result<(), PlanFault> {
     let first = sheet.add_straight()?;
     let second = sheet.add_straight()?;
-    sheet.connect(east(first), west(second))
+    sheet.connect(Side::East.of(first), Side::West.of(second))
 }
 
 // What the records name that another sheet left behind counts for nothing.
@@ -48,15 +49,23 @@ fn print_used_space(rt: &HostRuntime) -> anyhow::Result<()> {
         "a straight section in a used space",
         sheet.add_straight(),
     )?;
-    print_far(rt, "from its east", sheet.far(east(0)))?;
+    print_far(rt, "from its east", sheet.far(Side::East.of(0)))?;
     print_far(
         rt,
         "from a component that is not added yet",
-        sheet.far(west(1)),
+        sheet.far(Side::West.of(1)),
     )?;
     print_number(rt, "a second beside it", sheet.add_straight())?;
-    print_far(rt, "from the west of the second", sheet.far(west(1)))?;
-    print_far(rt, "from the east of the first", sheet.far(east(0)))
+    print_far(
+        rt,
+        "from the west of the second",
+        sheet.far(Side::West.of(1)),
+    )?;
+    print_far(
+        rt,
+        "from the east of the first",
+        sheet.far(Side::East.of(0)),
+    )
 }
 
 fn print_letters(rt: &HostRuntime) -> anyhow::Result<()> {

@@ -1,21 +1,46 @@
 use anyhow::anyhow;
-use fault::kinds::PlanFault;
-use plan::parts::{Port, Side};
+use fault::kinds::{PlanFault, Told};
+use plan::parts::Port;
+use std::fmt;
 
-fn print_fault(rt: &HostRuntime, name: &str, fault: PlanFault) -> anyhow::Result<()> {
-    let told = fault.tell();
-    let number = told.number;
-    let place = told.place;
-    println!(rt; "{name}: {number} at {place}")?;
-    Ok(())
+// The number that a component or point section got.
+#[derive(Clone, Copy)]
+struct Number(u16);
+
+impl fmt::Display for Number {
+    fn fmt<W: fmt::Write>(&self, f: &mut fmt::Formatter<W>) -> fmt::Result {
+        let number = self.0;
+        write!(f, "number {number}")
+    }
 }
 
-fn side_name(side: Side) -> &'static str {
-    match side {
-        Side::West => "west",
-        Side::East => "east",
-        Side::Branch => "branch",
+// What a port is connected to.
+#[derive(Clone, Copy)]
+struct Far(Option<Port>);
+
+impl fmt::Display for Far {
+    fn fmt<W: fmt::Write>(&self, f: &mut fmt::Formatter<W>) -> fmt::Result {
+        let Some(port) = self.0 else {
+            return f.write_str("blank");
+        };
+        let (side, component) = (port.side, port.component);
+        write!(f, "{side} of {component}")
     }
+}
+
+fn print_answer<T: fmt::Display + Drop>(
+    rt: &HostRuntime,
+    name: &str,
+    answer: Result<T, PlanFault>,
+) -> anyhow::Result<()> {
+    match answer {
+        Ok(value) => println!(rt; "{name}: {value}")?,
+        Err(fault) => {
+            let told = Told::from(fault);
+            println!(rt; "{name}: {told}")?;
+        }
+    }
+    Ok(())
 }
 
 // Prints what a call answers that only accepts or refuses.
@@ -24,24 +49,15 @@ pub fn print_accepted(
     name: &str,
     answer: Result<(), PlanFault>,
 ) -> anyhow::Result<()> {
-    match answer {
-        Ok(()) => println!(rt; "{name}: accepted")?,
-        Err(fault) => print_fault(rt, name, fault)?,
-    }
-    Ok(())
+    print_answer(rt, name, answer.map(|()| "accepted"))
 }
 
-// Prints the number that a component or point section got.
 pub fn print_number(
     rt: &HostRuntime,
     name: &str,
     answer: Result<u16, PlanFault>,
 ) -> anyhow::Result<()> {
-    match answer {
-        Ok(number) => println!(rt; "{name}: number {number}")?,
-        Err(fault) => print_fault(rt, name, fault)?,
-    }
-    Ok(())
+    print_answer(rt, name, answer.map(Number))
 }
 
 pub fn print_far(
@@ -49,22 +65,10 @@ pub fn print_far(
     name: &str,
     answer: Result<Option<Port>, PlanFault>,
 ) -> anyhow::Result<()> {
-    match answer {
-        Ok(Some(far)) => {
-            let side = side_name(far.side);
-            let component = far.component;
-            println!(rt; "{name}: {side} of {component}")?;
-        }
-        Ok(None) => println!(rt; "{name}: blank")?,
-        Err(fault) => print_fault(rt, name, fault)?,
-    }
-    Ok(())
+    print_answer(rt, name, answer.map(Far))
 }
 
 // A call that prepares a trial must be accepted.
 pub fn prepared(answer: Result<(), PlanFault>) -> anyhow::Result<()> {
-    match answer {
-        Ok(()) => Ok(()),
-        Err(_) => Err(anyhow!("a call was refused that only prepares a trial")),
-    }
+    answer.map_err(|_| anyhow!("a call was refused that only prepares a trial"))
 }

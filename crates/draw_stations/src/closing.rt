@@ -1,8 +1,9 @@
 use crate::answers::{prepared, print_accepted, print_far, print_number};
 use crate::registers::print_register;
-use crate::trial::{branch, east, unused, west};
+use crate::trial::unused;
 use fault::kinds::PlanFault;
 use plan::interface::Plan;
+use plan::parts::Side;
 use sheet::sheet::Sheet;
 
 // The one-switch station, but that the branch of the switch stays blank.
@@ -12,8 +13,8 @@ fn draw_without_leg(sheet: &mut Sheet<'_>) -> Result<(), PlanFault> {
     sheet.add_signal(b'E')?;
     sheet.add_signal(b'E')?;
     let switch = sheet.add_switch(b'E', section)?;
-    sheet.connect(east(0), west(switch))?;
-    sheet.connect(east(switch), west(1))
+    sheet.connect(Side::East.of(0), Side::West.of(switch))?;
+    sheet.connect(Side::East.of(switch), Side::West.of(1))
 }
 
 // Prints what a plan tells of the switch 3 and how many components there are.
@@ -21,8 +22,8 @@ fn print_plan<P: Plan>(rt: &HostRuntime, name: &str, plan: &P) -> anyhow::Result
     let count = plan.count();
     println!(rt; "{name}: components {count}")?;
     print_number(rt, "the point section of 3", plan.section(3))?;
-    print_far(rt, "from the east of 3", plan.far(east(3)))?;
-    print_far(rt, "from the branch of 3", plan.far(branch(3)))
+    print_far(rt, "from the east of 3", plan.far(Side::East.of(3)))?;
+    print_far(rt, "from the branch of 3", plan.far(Side::Branch.of(3)))
 }
 
 fn print_sheet(rt: &HostRuntime, name: &str, sheet: &Sheet<'_>) -> anyhow::Result<()> {
@@ -34,11 +35,11 @@ fn print_sheet(rt: &HostRuntime, name: &str, sheet: &Sheet<'_>) -> anyhow::Resul
 
 fn print_completing(rt: &HostRuntime, sheet: &mut Sheet<'_>) -> anyhow::Result<()> {
     print_sheet(rt, "the sheet reopened", sheet)?;
-    print_far(rt, "from the east of 0", sheet.far(east(0)))?;
+    print_far(rt, "from the east of 0", sheet.far(Side::East.of(0)))?;
     print_accepted(
         rt,
         "connecting the branch of 3",
-        sheet.connect(branch(3), west(2)),
+        sheet.connect(Side::Branch.of(3), Side::West.of(2)),
     )?;
     print_sheet(rt, "the sheet whole", sheet)
 }

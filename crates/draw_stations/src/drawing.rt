@@ -1,13 +1,13 @@
 use crate::answers::prepared;
 use crate::registers::{compare, print_rows};
-use crate::stations::{FOURTEEN, ONE_SWITCH};
-use crate::trial::{branch, east, unused, west};
+use crate::trial::unused;
 use fault::kinds::PlanFault;
 use filed::filed::FiledPlan;
 use plan::interface::Plan;
-use plan::parts::{Port, Side};
+use plan::parts::Side;
 use register::registers::Register;
 use sheet::sheet::Sheet;
+use stations::{FOURTEEN, ONE_SWITCH};
 
 // The connections of the fourteen-component station, the western port first. s1 to s10 are 0 to 9, w1 to w4 are 10 to 13.
 const CONNECTIONS: [(u16, Side, u16, Side); 14] = [
@@ -34,9 +34,9 @@ fn draw_one_switch(sheet: &mut Sheet<'_>) -> Result<(), PlanFault> {
     let straight_on = sheet.add_signal(b'E')?;
     let beside = sheet.add_signal(b'E')?;
     let switch = sheet.add_switch(b'E', section)?;
-    sheet.connect(east(from), west(switch))?;
-    sheet.connect(east(switch), west(straight_on))?;
-    sheet.connect(branch(switch), west(beside))
+    sheet.connect(Side::East.of(from), Side::West.of(switch))?;
+    sheet.connect(Side::East.of(switch), Side::West.of(straight_on))?;
+    sheet.connect(Side::Branch.of(switch), Side::West.of(beside))
 }
 
 // Ten signals and four switches, each switch in a point section of its own.
@@ -49,15 +49,7 @@ fn draw_fourteen(sheet: &mut Sheet<'_>) -> Result<(), PlanFault> {
         sheet.add_switch(*letter, section)?;
     }
     for (a, a_side, b, b_side) in CONNECTIONS {
-        let from = Port {
-            component: a,
-            side: a_side,
-        };
-        let to = Port {
-            component: b,
-            side: b_side,
-        };
-        sheet.connect(from, to)?;
+        sheet.connect(a_side.of(a), b_side.of(b))?;
     }
     Ok(())
 }

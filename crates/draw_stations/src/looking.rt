@@ -1,6 +1,7 @@
 use crate::answers::{prepared, print_accepted, print_number};
-use crate::trial::{add_parts, branch, connect_parts, east, unused, west};
+use crate::trial::{add_parts, connect_parts, unused};
 use fault::kinds::PlanFault;
+use plan::parts::Side;
 use sheet::sheet::Sheet;
 
 fn print_without_switches(rt: &HostRuntime) -> anyhow::Result<()> {
@@ -20,18 +21,18 @@ fn print_without_switches(rt: &HostRuntime) -> anyhow::Result<()> {
 
 // Connects switch 2 at every port, and one of 3 stays blank.
 fn connect_first(sheet: &mut Sheet<'_>) -> Result<(), PlanFault> {
-    sheet.connect(east(0), west(2))?;
-    sheet.connect(east(2), west(3))?;
-    sheet.connect(branch(2), branch(3))
+    sheet.connect(Side::East.of(0), Side::West.of(2))?;
+    sheet.connect(Side::East.of(2), Side::West.of(3))?;
+    sheet.connect(Side::Branch.of(2), Side::Branch.of(3))
 }
 
 // Connects switch 4 with signal 0 and two more.
 fn connect_fourth(sheet: &mut Sheet<'_>) -> Result<(), PlanFault> {
     let upper = sheet.add_signal(b'E')?;
     let lower = sheet.add_signal(b'E')?;
-    sheet.connect(east(4), west(0))?;
-    sheet.connect(east(upper), west(4))?;
-    sheet.connect(east(lower), branch(4))
+    sheet.connect(Side::East.of(4), Side::West.of(0))?;
+    sheet.connect(Side::East.of(upper), Side::West.of(4))?;
+    sheet.connect(Side::East.of(lower), Side::Branch.of(4))
 }
 
 fn print_switches(rt: &HostRuntime, sheet: &mut Sheet<'_>) -> anyhow::Result<()> {
@@ -50,7 +51,7 @@ fn print_switches(rt: &HostRuntime, sheet: &mut Sheet<'_>) -> anyhow::Result<()>
     print_accepted(
         rt,
         "connecting the root of 3",
-        sheet.connect(east(3), west(1)),
+        sheet.connect(Side::East.of(3), Side::West.of(1)),
     )?;
     print_accepted(rt, "looking over both connected", sheet.look_over())?;
     print_number(
@@ -64,7 +65,7 @@ fn print_switches(rt: &HostRuntime, sheet: &mut Sheet<'_>) -> anyhow::Result<()>
     print_accepted(
         rt,
         "disconnecting the branch of 3",
-        sheet.disconnect(branch(3)),
+        sheet.disconnect(Side::Branch.of(3)),
     )?;
     print_accepted(rt, "looking over two blank branches", sheet.look_over())
 }

@@ -10,7 +10,6 @@ mod disconnecting;
 mod drawing;
 mod looking;
 mod registers;
-mod stations;
 mod trial;
 
 use adding::print_adding;

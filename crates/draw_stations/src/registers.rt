@@ -1,6 +1,6 @@
 use anyhow::anyhow;
 use fault::kinds::BoxFault;
-use lines::counts::write_end;
+use lines::closing::Closing;
 use lines::rows::write_row_line;
 use plan::interface::Plan;
 use register::registers::Register;
@@ -15,12 +15,15 @@ const LONGEST_ROW: usize = 1_026;
 // The longest line: 512 components of three digits, each with its letter and a space or the line's end behind it.
 const LONGEST_LINE: usize = 2_560;
 
-fn print_line(
+// Prints the line that the call writes.
+fn print_line<F: FnOnce(&mut [u8]) -> Result<usize, BoxFault>>(
     rt: &HostRuntime,
-    line: &[u8],
-    written: Result<usize, BoxFault>,
-) -> anyhow::Result<()> {
-    let Ok(length) = written else {
+    write: F,
+) -> anyhow::Result<()>
+    requires { F.IsAlwaysCallable write }
+{
+    let mut line = [0; LONGEST_LINE];
+    let Ok(length) = write(&mut line) else {
         return Err(anyhow!("a line was refused"));
     };
     let Some(text) = line.get(0..length) else {
@@ -28,18 +31,6 @@ fn print_line(
     };
     rt.stdout().write_all(text)?;
     Ok(())
-}
-
-fn print_row(rt: &HostRuntime, row: &[u8]) -> anyhow::Result<()> {
-    let mut line = [0; LONGEST_LINE];
-    let written = write_row_line(row, &mut line);
-    print_line(rt, &line, written)
-}
-
-fn print_end(rt: &HostRuntime, count: usize) -> anyhow::Result<()> {
-    let mut line = [0; LONGEST_LINE];
-    let written = write_end(count, &mut line);
-    print_line(rt, &line, written)
 }
 
 // The length of the next row, none where the register is drained.
@@ -59,12 +50,12 @@ pub fn print_rows<P: Plan>(rt: &HostRuntime, register: &mut Register<P>) -> anyh
     let mut space = [0; LONGEST_ROW];
     for count in 0..TURNS {
         let Some(length) = next_length(register, &mut space)? else {
-            return print_end(rt, count);
+            return print_line(rt, |line| Closing::End(count).write(line));
         };
         let Some(row) = space.get(0..length) else {
             return Err(anyhow!("a row is longer than its space"));
         };
-        print_row(rt, row)?;
+        print_line(rt, |line| write_row_line(row, line))?;
     }
     Err(anyhow!("the register handed out more rows than the station has routes"))
 }
