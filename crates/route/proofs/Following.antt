@@ -1,13 +1,12 @@
 -- Which entries follow an entry.
-use Rattle.std.proofs.Common.{◌≡◌, ℕ, ◌+◌, ◌*◌, ◌/◌, ◌%◌, ◌<◌, ◌≤◌, Bool, true, false, cond, ◌&&◌, eqb, ◌⊎◌, Some, None, Option, sym, refl, ap, ◌∙◌, subst, inl, inr, ⊎_elim, arith}
-use Rattle.std.proofs.lemmas.Bool.{cases_Bool, eq-eqb, ne_eqb, true≢false}
-use Rattle.std.specs.Result.{result_unwrap_or}
+use Rattle.std.proofs.Common.{◌≡◌, ℕ, ◌+◌, ◌*◌, ◌/◌, ◌%◌, ◌<◌, ◌≤◌, Bool, true, false, cond, ◌&&◌, eqb, ◌⊎◌, Some, None, Option, sym, refl, ◌∙◌, subst, inl, inr, ⊎_elim, arith}
+use Rattle.std.proofs.lemmas.Bool.{cases_Bool, eq-eqb, ne_eqb}
 use Rattle.plan.specs.declared.parts.Side.TheVariants.{Branch}
 use Rattle.plan.specs.declared.parts.Direction.{Direction}
 use Rattle.plan.specs.declared.parts.Kind.{Kind}
 use Rattle.plan.specs.declared.parts.Port.{Port}
-use Rattle.plan.specs.Layout.{Layout, Lawful, is_port, told, told_far}
-use Rattle.plan.proofs.Ports.{port_below, far_below}
+use Rattle.plan.specs.Layout.{Layout, Lawful}
+use Rattle.plan.proofs.Ports.{far_below}
 use Rattle.route.specs.declared.steps.Range.{Range}
 use Rattle.route.specs.Paths.{exit_of, facing, towards, MayLie, Enters, Follows}
 use Rattle.route.specs.Steps.{Exactly}
@@ -19,12 +18,6 @@ entered l (Some p) e h = (p, refl)
 no_port : (o : Option Port) → ((q : Port) → o ≡ Some q → ⊥) → o ≡ None
 no_port None h = refl
 no_port (Some q) h = absurd (h q refl)
-
--- only a component of the layout is followed, and only by one of the layout
-pub follows_from : (l : Layout) → Lawful l → (d : Direction) (e e' : ℕ) → Follows l d e e' → e / 4 < l.count
-follows_from l w d e e' h =
-    let p = entered l (l.far (exit_of l d e)) e' h in
-    port_below l (exit_of l d e) (w.ports (exit_of l d e) p.0 p.1)
 
 pub follows_to : (l : Layout) → Lawful l → (d : Direction) (e e' : ℕ) → Follows l d e e' → e' / 4 < l.count
 follows_to l w d e e' h =
@@ -40,19 +33,6 @@ enters_one l (Some p) e e' h h' = h.0 ∙ sym h'.0
 
 pub follows_one : (l : Layout) (d : Direction) (x e e' : ℕ) → Follows l d x e → Follows l d x e' → e / 4 ≡ e' / 4
 follows_one l d x e e' = enters_one l (l.far (exit_of l d x)) e e'
-
--- what a telling of a far port is worth where no port is as good as a blank one
-pub far_or_blank : (l : Layout) → Lawful l → (p : Port) → result_unwrap_or (told_far l p) None ≡ l.far p
-far_or_blank l w p =
-    let answer : Bool → Option Port = λ b. result_unwrap_or (told b (l.far p)) None in
-    ⊎_elim
-    (λ t. ap answer t)
-    (λ f. ap answer f ∙ sym (no_port (l.far p) (λ q e. true≢false (sym (w.ports p q e) ∙ f))))
-    (cases_Bool (is_port l p))
-
--- nothing lies beyond a component that the layout lacks
-pub none_beyond : (l : Layout) → Lawful l → (p : Port) → l.count ≤ p.component → l.far p ≡ None
-none_beyond l w p h = no_port (l.far p) (λ q e. let b = port_below l p (w.ports p q e) in omega arith)
 
 pub follows_exactly : (l : Layout) (d : Direction) (e : ℕ) (p : Port) (k : Kind) (x : Range) → l.far (exit_of l d e) ≡ Some p → k ≡ l.kind p.component → Exactly (MayLie k p.side) x → x.high ≤ 2 → Exactly (Follows l d e) (record { low = 4 * p.component + x.low; high = 4 * p.component + x.high })
 follows_exactly l d e p k x far kind exact small =

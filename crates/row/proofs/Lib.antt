@@ -1,4 +1,3 @@
-mod Fronts
 pub mod Puts
 pub mod Rows
 mod Writes
