@@ -6,7 +6,8 @@ pub enum Layer {
     Box,
 }
 
-// What a fault tells: its layer, its number in the table of refusals, and a place, 0 where none is named.
+// What a fault tells: its layer, its number in the table of refusals, and a place, 0 where none is named. The number is
+// what lines and C callers are given; code matches on the faults themselves.
 #[derive(Clone, Copy, PartialEq, Eq, Debug)]
 pub struct Told {
     pub layer: Layer,

@@ -2,11 +2,11 @@
 
 ghost use Rattle.std.specs.Prelude.{◌≡◌};
 ghost use Rattle.plan.specs.Letters.{direction_at};
-ghost use Rattle.file.specs.Contents.{side_number, port_of};
+ghost use Rattle.file.specs.Contents.{port_of};
 
 use plan::parts::{Direction, Port, Side};
 
-// What is stored for a blank.
+// What is stored for a blank: the format's number, which leaves this crate as a None.
 pub(crate) const BLANK: u16 = 65535;
 
 // The direction that a letter stands for; whatever is not that of east counts as west.
@@ -16,13 +16,8 @@ pub(crate) fn direction_at(letter: u8) -> Direction
     Direction::try_from(letter).unwrap_or(Direction::West)
 }
 
-pub(crate) fn side_number(side: Side) -> usize
-    ensures { result ≡ side_number side }
-{
-    side as usize
-}
-
-// The port that has the code, if any can: the code of a blank, 65535, is no port's.
+// The port that has the code, if any can: the code of a blank, 65535, is no port's. No TryFrom, since a code is a u16 as
+// counts and sections are.
 pub(crate) fn port_of(code: u16) -> Option<Port>
     ensures { result ≡ port_of code }
 {

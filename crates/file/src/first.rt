@@ -52,6 +52,7 @@ fn read_records(bytes: &[u8], from: usize, count: u16, sort: Sort) -> Result<(),
     requires { from < 2 ^ 30 }
     ensures { result ≡ first_failing (each count (nth_record bytes.now from sort)) }
 {
+    // a record is found by its number, since it may be cut off where a slice would end
     for i in 0..usize::from(count) {
         read_record(bytes, from + sort.size() * i, sort)?;
     }

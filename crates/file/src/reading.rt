@@ -1,7 +1,7 @@
 ghost use Rattle.std.specs.Prelude.{◌≡◌};
 ghost use Rattle.file.specs.Contents.{switches_at, straights_at, sections_at, end_of, components, place, kind_of, section_of, port_of, field_at, stored, port_in};
 
-use crate::codes::{direction_at, port_of, side_number};
+use crate::codes::{direction_at, port_of};
 use crate::contents::Contents;
 use numbers::{byte_at, number_at};
 use plan::parts::{Kind, Port};
@@ -102,7 +102,7 @@ impl Contents<'_> {
     pub(crate) fn field(&self, port: Port) -> usize
         ensures { result ≡ field_at self.now.bytes.now port }
     {
-        self.place(port.component) + 2 * side_number(port.side)
+        self.place(port.component) + 2 * (port.side as usize)
     }
 
     pub(crate) fn stored(&self, port: Port) -> u16

@@ -93,6 +93,7 @@ fn belongs(file: &Contents, section: u16, component: u16) -> bool
     file.kind(component).is_switch() && file.section(component) == section
 }
 
+// The loops are over the numbers of components and point sections: the records of a file are no slice of items.
 impl FirstRead<'_> {
     fn read_components(&self) -> Result<(), PlanFault>
         ensures { result ≡ first_failing (component_fields self.now.file.bytes.now) }

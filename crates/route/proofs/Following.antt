@@ -15,10 +15,6 @@ entered : (l : Layout) (o : Option Port) (e : ℕ) → Enters l o e → (p : Por
 entered l None e h = absurd h
 entered l (Some p) e h = (p, refl)
 
-no_port : (o : Option Port) → ((q : Port) → o ≡ Some q → ⊥) → o ≡ None
-no_port None h = refl
-no_port (Some q) h = absurd (h q refl)
-
 pub follows_to : (l : Layout) → Lawful l → (d : Direction) (e e' : ℕ) → Follows l d e e' → e' / 4 < l.count
 follows_to l w d e e' h =
     let p = entered l (l.far (exit_of l d e)) e' h in

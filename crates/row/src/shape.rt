@@ -4,7 +4,7 @@ ghost use Rattle.row.specs.Row.{entry_ok, is_entries, is_row, numbers_from};
 
 use numbers::number_at;
 
-// Whether a row can hold the entry: a component below 512, and how a switch lies.
+// Whether a row can hold the entry: a component below 512, and how a switch lies. `lie` has no word for what leaves 3.
 fn is_entry(e: u16) -> bool
     ensures { result ≡ entry_ok e }
 {

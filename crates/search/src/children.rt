@@ -13,6 +13,7 @@ use row::entry::component;
 fn next_start<P: Plan>(plan: &P, from: u16) -> Option<u16>
     ensures { Least (Starts (P.layout plan.now)) from result }
 {
+    // a plan tells of components by number, and is no slice to iterate over
     for component in 0..plan.count() {
         let entry = 4 * component;
         if from <= entry && signal(plan, component).is_some() {
@@ -45,7 +46,8 @@ fn next_entry<P: Plan>(plan: &P, at: &[u16], from: u16) -> Option<u16>
     next_after(plan, way, *last, from)
 }
 
-// Goes down to the least entry from `from` on that may stand after the path; false where there is none.
+// Goes down to the least entry from `from` on that may stand after the path; false where there is none. In place, as
+// the whole search is.
 pub fn descend<P: Plan>(plan: &P, at: &mut Position, from: u16) -> bool
     ensures { Descended (P.layout plan.now) from at.old at.new result }
 {

@@ -14,7 +14,8 @@ use route::ends::is_route;
 // steps back are the common case, and cheaper than the question.
 const PATIENCE: u16 = 64;
 
-// Past every entry that may stand after a path.
+// Past every entry that may stand after a path. A number like the others that the search goes on from: an Option would
+// be a second way to say that none is left.
 const NO_ENTRY: u16 = 2_048;
 
 // The entry from which on a route may go on below the path.
@@ -29,7 +30,8 @@ fn first_below<P: Plan>(plan: &P, at: &Position, steps_back: u16) -> u16
     }
 }
 
-// Moves on to the first route after the path, in lexicographic order. Where there is none the path is empty.
+// Moves on to the first route after the path, in lexicographic order. Where there is none the path is empty. A position
+// is a kilobyte that is moved on in place, so the answer is a bool, and no Option that holds a copy.
 pub fn next_route<P: Plan>(plan: &P, at: &mut Position) -> bool
     ensures { Begun (P.layout plan.now) (path_of at.old) → Found (P.layout plan.now) (path_of at.old) (path_of at.new) result }
 {

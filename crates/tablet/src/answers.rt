@@ -4,7 +4,7 @@ ghost use Rattle.tablet.specs.Answers.{layer_number, refused, looked, judged, co
 use fault::kinds::{BoxFault, Layer, PlanFault, Told};
 
 // What a call answers: all 0 where it accepts, else what the fault tells.
-// The layers are numbered 1 (file), 2 (plan) and 3 (box).
+// The layers are numbered 1 (file), 2 (plan) and 3 (box): C is given plain numbers.
 #[repr(C)]
 #[derive(Clone, Copy)]
 pub struct Answer {
