@@ -101,9 +101,12 @@ fn print_letters(rt: &HostRuntime) -> anyhow::Result<()> {
     )
 }
 
-fn add_straights(sheet: &mut Sheet<'_>, count: u16) -> Result<(), PlanFault> {
+// Makes a call so many times that must be accepted.
+fn repeated<F: FnMut() -> Result<u16, PlanFault>>(count: u16, mut call: F) -> anyhow::Result<()>
+    requires { F.IsAlwaysCallable call }
+{
     for _ in 0..count {
-        sheet.add_straight()?;
+        prepared(call().map(|_| ()))?;
     }
     Ok(())
 }
@@ -112,7 +115,7 @@ fn add_straights(sheet: &mut Sheet<'_>, count: u16) -> Result<(), PlanFault> {
 fn print_most_components(rt: &HostRuntime) -> anyhow::Result<()> {
     let mut space = [unused(); 600];
     let mut sheet = Sheet::new(&mut space);
-    prepared(add_straights(&mut sheet, 511))?;
+    repeated(511, || sheet.add_straight())?;
     print_number(rt, "the 512th component", sheet.add_signal(b'E'))?;
     print_number(rt, "the 513th", sheet.add_straight())?;
     print_number(
@@ -122,17 +125,10 @@ fn print_most_components(rt: &HostRuntime) -> anyhow::Result<()> {
     )
 }
 
-fn add_sections(sheet: &mut Sheet<'_>, count: u16) -> Result<(), PlanFault> {
-    for _ in 0..count {
-        sheet.add_section()?;
-    }
-    Ok(())
-}
-
 fn print_most_sections(rt: &HostRuntime) -> anyhow::Result<()> {
     let mut space = [unused(); 2];
     let mut sheet = Sheet::new(&mut space);
-    prepared(add_sections(&mut sheet, 511))?;
+    repeated(511, || sheet.add_section())?;
     print_number(
         rt,
         "a switch of the 512th point section too soon",

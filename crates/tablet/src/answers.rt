@@ -1,7 +1,8 @@
-ghost use Rattle.std.specs.Prelude.{◌≡◌};
-ghost use Rattle.tablet.specs.Answers.{layer_number, refused, looked, judged, counted};
+ghost use Rattle.std.specs.Prelude.{◌≡◌, MatchResult};
+ghost use Rattle.tablet.specs.Answers.{layer_number, accepted, refused, counted};
+ghost use Rattle.fault.specs.declared.kinds.Told.{Told};
 
-use fault::kinds::{BoxFault, Layer, PlanFault, Told};
+use fault::kinds::{BoxFault, Layer, Told};
 
 // What a call answers: all 0 where it accepts, else what the fault tells.
 // The layers are numbered 1 (file), 2 (plan) and 3 (box): C is given plain numbers.
@@ -50,24 +51,16 @@ const ACCEPTED: Answer = Answer {
     place: 0,
 };
 
-impl From<Result<(), PlanFault>> for Answer {
-    ghost from_gives = { λ told r. r ≡ looked told };
+impl<F: Into<Told>> From<Result<(), F>> for Answer {
+    ghost from_gives = { λ res r. MatchResult res (λ _. r ≡ accepted) (λ e. (told : Told) × F.converts e told × (r ≡ refused told)) };
 
-    fn from(told: Result<(), PlanFault>) -> Answer {
-        match told {
+    fn from(res: Result<(), F>) -> Answer {
+        match res {
             Ok(()) => ACCEPTED,
-            Err(fault) => Answer::from(Told::from(fault)),
-        }
-    }
-}
-
-impl From<Result<(), BoxFault>> for Answer {
-    ghost from_gives = { λ told r. r ≡ judged told };
-
-    fn from(told: Result<(), BoxFault>) -> Answer {
-        match told {
-            Ok(()) => ACCEPTED,
-            Err(fault) => Answer::from(Told::from(fault)),
+            Err(fault) => {
+                let told: Told = fault.into();
+                Answer::from(told)
+            }
         }
     }
 }
