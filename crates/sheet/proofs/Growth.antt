@@ -9,7 +9,7 @@ use Rattle.plan.specs.declared.parts.Port.{Port}
 use Rattle.plan.specs.Layout.{is_port, has_side, side_faces, same_direction, port as port_at}
 use Rattle.plan.proofs.Ports.{port_below}
 use Rattle.sheet.specs.declared.component.Component.{Component}
-use Rattle.sheet.specs.Records.{blank_component, at, named_at, named, kinds, components_of, section_stands}
+use Rattle.sheet.specs.Records.{blank_component, at, named_at, named, kinds, components_of}
 use Rattle.sheet.specs.Connections.{may_connect, far_in, layout_of}
 use Rattle.sheet.specs.Laws.{may_parts, far_says, says_far}
 use Rattle.sheet.specs.Adding.{empty_layout, with_component}
@@ -96,13 +96,6 @@ module _ (rs : List Component) (n : ℕ) (k : Kind) (s : ℕ) (h : n < length rs
     section = ext _ _ (field_grown (λ r. r.section) 0) i;
     far = ext _ _ far_grown i;
   }
-
-  pub added_stands : (m : ℕ) → section_stands (blank_component k s) m ≡ true → ((c : ℕ) → c < n → section_stands (at rs c) m ≡ true) → (c : ℕ) → c < n + 1 → section_stands (at after c) m ≡ true
-  added_stands m new known c l =
-      ⊎_elim
-      (λ q. ap (λ x. section_stands (at after x) m) q ∙ ap (λ r. section_stands r m) here ∙ new)
-      (λ q. let b : c < n = omega arith in ap (λ r. section_stands r m) (there c q) ∙ known c b)
-      (cases_eq c n)
 
 -- the sheet without components
 pub empty_drawn : (rs : List Component) → layout_of rs 0 ≡ empty_layout
