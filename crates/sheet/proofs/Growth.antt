@@ -6,7 +6,7 @@ use Rattle.plan.specs.declared.parts.Kind.{Kind}
 use Rattle.plan.specs.declared.parts.Kind.TheVariants.{Signal, Straight}
 use Rattle.plan.specs.declared.parts.Side.{Side}
 use Rattle.plan.specs.declared.parts.Port.{Port}
-use Rattle.plan.specs.Layout.{is_port, has_side, side_faces, same_direction, port as port_at}
+use Rattle.plan.specs.Layout.{is_port, has_side, side_faces, same_direction, port}
 use Rattle.plan.proofs.Ports.{port_below}
 use Rattle.sheet.specs.declared.component.Component.{Component}
 use Rattle.sheet.specs.Records.{blank_component, at, named_at, named, kinds, components_of}
@@ -86,8 +86,8 @@ module _ (rs : List Component) (n : ℕ) (k : Kind) (s : ℕ) (h : n < length rs
       let hq = old q m.1 in
       says_far l' (named after) p q (names_rest p hp ∙ e.0) (names_rest q hq ∙ e.1) (may_grown p q hp hq ∙ e.2))
 
-  pub added_blank : (d : Side) → (layout_of after (n + 1)).far (port_at n d) ≡ None
-  added_blank d = far_none (components_of after (n + 1)) (named after) (port_at n d) (λ q e m. never_some _ q (names_new (port_at n d) refl) e)
+  pub added_blank : (d : Side) → (layout_of after (n + 1)).far (port n d) ≡ None
+  added_blank d = far_none (components_of after (n + 1)) (named after) (port n d) (λ q e m. never_some _ q (names_new (port n d) refl) e)
 
   pub added_layout : layout_of after (n + 1) ≡ with_component (layout_of rs n) k s
   added_layout = λ i. record {

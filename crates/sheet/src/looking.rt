@@ -5,7 +5,7 @@ ghost use Rattle.sheet.specs.Sheets.{plan_of};
 use crate::sheet::Sheet;
 use fault::kinds::PlanFault;
 
-impl<'a> Sheet<'a> {
+impl Sheet<'_> {
     // The first switch with a blank port.
     fn first_blank(&self) -> Option<u16>
         ensures { FirstBad self.now.count
