@@ -17,7 +17,7 @@ pub enum Closing {
 }
 
 impl Closing {
-    // How long the line is.
+    // How long the line is: its word and spaces, its numbers, and its end.
     fn size(self) -> usize
         ensures { result ≡ length (closing_line self) }
     {

@@ -11,6 +11,7 @@ pub(crate) struct Line<'a> {
 
 impl Line<'_> {
     #[inline]
+    #[tactic(auto, using(row::proofs::Puts::put_one))]
     pub(crate) fn byte(&mut self, b: u8)
         requires { HasRoom self.old (b ∷ []) }
         ensures { Written self.old self.new (b ∷ []) }
@@ -30,6 +31,7 @@ impl Line<'_> {
         self.at = end;
     }
 
+    #[tactic(auto, using(crate::proofs::Decimals::decimal_digit, crate::proofs::Decimals::length_step))]
     pub(crate) fn number(&mut self, n: usize)
         requires { HasRoom self.old (decimal n) }
         ensures { Written self.old self.new (decimal n) }
@@ -45,6 +47,7 @@ impl Line<'_> {
 
     // A number below 1,000. `number` calls itself and is not inlined: rows that are written by it take three times as long.
     #[inline]
+    #[tactic(auto, using(crate::proofs::Decimals::decimal_digit, crate::proofs::Decimals::decimal_two, crate::proofs::Decimals::decimal_three))]
     pub(crate) fn small(&mut self, n: u16)
         requires below { n < 1000 }
         requires room { HasRoom self.old (decimal n) }

@@ -30,45 +30,46 @@ fn line_count(row: &[u8]) -> usize
         .sum()
 }
 
-// Writes an entry.
-#[inline]
-fn put_entry(line: &mut Line<'_>, e: u16)
-    requires small { e < 2048 }
-    requires room { HasRoom line.old (shown e) }
-    ensures { Written line.old line.new (shown e) }
-{
-    line.small(component(e));
-    match lie(e) {
-        Some(Position::Normal) => line.byte(b'N'),
-        Some(Position::Reverse) => line.byte(b'R'),
-        None => {}
+impl Line<'_> {
+    #[inline]
+    fn entry(&mut self, e: u16)
+        requires small { e < 2048 }
+        requires room { HasRoom self.old (shown e) }
+        ensures { Written self.old self.new (shown e) }
+    {
+        self.small(component(e));
+        match lie(e) {
+            Some(Position::Normal) => self.byte(b'N'),
+            Some(Position::Reverse) => self.byte(b'R'),
+            None => {}
+        }
     }
-}
 
-// Writes the entry that two bytes hold, and a byte behind it.
-#[inline]
-fn put_pair(line: &mut Line<'_>, pair: [u8; 2], stop: u8)
-    requires small { number pair 0 < 2048 }
-    requires room { HasRoom line.old (shown (number pair 0) ++ stop ∷ []) }
-    ensures { Written line.old line.new (shown (number pair 0) ++ stop ∷ []) }
-{
-    put_entry(line, u16::from_le_bytes(pair));
-    line.byte(stop);
-}
-
-// Writes the line of a row where there is room for it: a space behind each entry but the last, and the line's end.
-fn put_row(line: &mut Line<'_>, row: &[u8])
-    requires row { is_row row.now ≡ true }
-    requires room { HasRoom line.old (row_line (entries_of row.now)) }
-    ensures { Written line.old line.new (row_line (entries_of row.now)) }
-{
-    let Some((last, front)) = pairs(row).split_last() else {
-        return;
-    };
-    for pair in front {
-        put_pair(line, *pair, b' ');
+    // The entry that two bytes hold, and a byte behind it.
+    #[inline]
+    fn pair(&mut self, pair: [u8; 2], stop: u8)
+        requires small { number pair 0 < 2048 }
+        requires room { HasRoom self.old (shown (number pair 0) ++ stop ∷ []) }
+        ensures { Written self.old self.new (shown (number pair 0) ++ stop ∷ []) }
+    {
+        self.entry(u16::from_le_bytes(pair));
+        self.byte(stop);
     }
-    put_pair(line, *last, b'\n');
+
+    // The entries of a row: a space behind each but the last, and behind that the end of the line.
+    fn row(&mut self, row: &[u8])
+        requires row { is_row row.now ≡ true }
+        requires room { HasRoom self.old (row_line (entries_of row.now)) }
+        ensures { Written self.old self.new (row_line (entries_of row.now)) }
+    {
+        let Some((last, front)) = pairs(row).split_last() else {
+            return;
+        };
+        for pair in front {
+            self.pair(*pair, b' ');
+        }
+        self.pair(*last, b'\n');
+    }
 }
 
 // Writes the line of a row at the front of the space and answers how long it is.
@@ -85,6 +86,6 @@ pub fn write_row_line(row: &[u8], space: &mut [u8]) -> Result<usize, BoxFault>
         return Err(BoxFault::ShortSpace);
     }
     let mut line = Line { space, at: 0 };
-    put_row(&mut line, row);
+    line.row(row);
     Ok(line.at)
 }

@@ -6,10 +6,10 @@ use Rattle.plan.specs.declared.parts.Kind.{Kind}
 use Rattle.plan.specs.declared.parts.Kind.TheVariants.{Signal, Straight}
 use Rattle.plan.specs.declared.parts.Side.{Side}
 use Rattle.plan.specs.declared.parts.Port.{Port}
-use Rattle.plan.specs.Layout.{is_port, has_side, side_faces, same_direction, port as port_at}
+use Rattle.plan.specs.Layout.{is_port, has_side, side_faces, same_direction, port}
 use Rattle.plan.proofs.Ports.{port_below}
 use Rattle.sheet.specs.declared.component.Component.{Component}
-use Rattle.sheet.specs.Records.{blank_component, at, named_at, named, kinds, components_of, section_stands}
+use Rattle.sheet.specs.Records.{blank_component, at, named_at, named, kinds, components_of}
 use Rattle.sheet.specs.Connections.{may_connect, far_in, layout_of}
 use Rattle.sheet.specs.Laws.{may_parts, far_says, says_far}
 use Rattle.sheet.specs.Adding.{empty_layout, with_component}
@@ -86,8 +86,8 @@ module _ (rs : List Component) (n : ℕ) (k : Kind) (s : ℕ) (h : n < length rs
       let hq = old q m.1 in
       says_far l' (named after) p q (names_rest p hp ∙ e.0) (names_rest q hq ∙ e.1) (may_grown p q hp hq ∙ e.2))
 
-  pub added_blank : (d : Side) → (layout_of after (n + 1)).far (port_at n d) ≡ None
-  added_blank d = far_none (components_of after (n + 1)) (named after) (port_at n d) (λ q e m. never_some _ q (names_new (port_at n d) refl) e)
+  pub added_blank : (d : Side) → (layout_of after (n + 1)).far (port n d) ≡ None
+  added_blank d = far_none (components_of after (n + 1)) (named after) (port n d) (λ q e m. never_some _ q (names_new (port n d) refl) e)
 
   pub added_layout : layout_of after (n + 1) ≡ with_component (layout_of rs n) k s
   added_layout = λ i. record {
@@ -96,13 +96,6 @@ module _ (rs : List Component) (n : ℕ) (k : Kind) (s : ℕ) (h : n < length rs
     section = ext _ _ (field_grown (λ r. r.section) 0) i;
     far = ext _ _ far_grown i;
   }
-
-  pub added_stands : (m : ℕ) → section_stands (blank_component k s) m ≡ true → ((c : ℕ) → c < n → section_stands (at rs c) m ≡ true) → (c : ℕ) → c < n + 1 → section_stands (at after c) m ≡ true
-  added_stands m new known c l =
-      ⊎_elim
-      (λ q. ap (λ x. section_stands (at after x) m) q ∙ ap (λ r. section_stands r m) here ∙ new)
-      (λ q. let b : c < n = omega arith in ap (λ r. section_stands r m) (there c q) ∙ known c b)
-      (cases_eq c n)
 
 -- the sheet without components
 pub empty_drawn : (rs : List Component) → layout_of rs 0 ≡ empty_layout

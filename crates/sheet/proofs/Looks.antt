@@ -2,7 +2,7 @@
 use Rattle.std.proofs.Common.{◌≡◌, ℕ, ◌<◌, ◌≤◌, Bool, true, false, not, Some, None, Ok, Err, Option, MatchOption, refl, ap, ⊎_elim, arith}
 use Rattle.std.proofs.lemmas.Bool.{both_ways, cases_order}
 use Rattle.fault.specs.declared.kinds.PlanFault.{PlanFault}
-use Rattle.fault.specs.declared.kinds.PlanFault.TheVariants.{File, SheetFull, WrongLetter, NoSuchPart, NotOpposed, NotNamedBack, AlreadyConnected, BlankPort, WrongSwitchCount}
+use Rattle.fault.specs.declared.kinds.PlanFault.TheVariants.{BlankPort, WrongSwitchCount}
 use Rattle.plan.specs.Layout.{Layout}
 use Rattle.sheet.specs.Look.{Whole, FirstBlank, FirstEmpty, HasSwitch, NoSwitch, SwitchTold, FirstBad, Looked, OneLook}
 
@@ -33,48 +33,24 @@ no_switch l s false h e = h
 pub not_whole : (l : Layout) (s : ℕ) (f : PlanFault) → Looked l s (Err f) → Whole l s → ⊥
 not_whole l s (BlankPort c) k w = both_ways _ k.blank (w.switches c k.stands)
 not_whole l s (WrongSwitchCount t) k w = never_both l t k.empty (w.sections t k.stands)
-not_whole l s (File f) k w = k
-not_whole l s SheetFull k w = k
-not_whole l s WrongLetter k w = k
-not_whole l s (NoSuchPart p) k w = k
-not_whole l s (NotOpposed p) k w = k
-not_whole l s (NotNamedBack p) k w = k
-not_whole l s AlreadyConnected k w = k
+not_whole l s _ k w = k
 
 one_blank : (l : Layout) (s c : ℕ) (f : PlanFault) → FirstBlank l c → Looked l s (Err f) → BlankPort c ≡ f
 one_blank l s c (BlankPort d) f k =
     ap BlankPort (first_one c d (λ h. both_ways _ f.blank (k.before c h)) (λ h. both_ways _ k.blank (f.before d h)))
 one_blank l s c (WrongSwitchCount t) f k = absurd (both_ways _ f.blank (k.switches c f.stands))
-one_blank l s c (File e) f k = absurd k
-one_blank l s c SheetFull f k = absurd k
-one_blank l s c WrongLetter f k = absurd k
-one_blank l s c (NoSuchPart p) f k = absurd k
-one_blank l s c (NotOpposed p) f k = absurd k
-one_blank l s c (NotNamedBack p) f k = absurd k
-one_blank l s c AlreadyConnected f k = absurd k
+one_blank l s c _ f k = absurd k
 
 one_empty : (l : Layout) (s t : ℕ) (f : PlanFault) → FirstEmpty l s t → Looked l s (Err f) → WrongSwitchCount t ≡ f
 one_empty l s t (BlankPort c) f k = absurd (both_ways _ k.blank (f.switches c k.stands))
 one_empty l s t (WrongSwitchCount u) f k =
     ap WrongSwitchCount (first_one t u (λ h. never_both l t f.empty (k.before t h)) (λ h. never_both l u k.empty (f.before u h)))
-one_empty l s t (File e) f k = absurd k
-one_empty l s t SheetFull f k = absurd k
-one_empty l s t WrongLetter f k = absurd k
-one_empty l s t (NoSuchPart p) f k = absurd k
-one_empty l s t (NotOpposed p) f k = absurd k
-one_empty l s t (NotNamedBack p) f k = absurd k
-one_empty l s t AlreadyConnected f k = absurd k
+one_empty l s t _ f k = absurd k
 
 one_fault : (l : Layout) (s : ℕ) (e f : PlanFault) → Looked l s (Err e) → Looked l s (Err f) → e ≡ f
 one_fault l s (BlankPort c) f k h = one_blank l s c f k h
 one_fault l s (WrongSwitchCount t) f k h = one_empty l s t f k h
-one_fault l s (File e) f k h = absurd k
-one_fault l s SheetFull f k h = absurd k
-one_fault l s WrongLetter f k h = absurd k
-one_fault l s (NoSuchPart p) f k h = absurd k
-one_fault l s (NotOpposed p) f k h = absurd k
-one_fault l s (NotNamedBack p) f k h = absurd k
-one_fault l s AlreadyConnected f k h = absurd k
+one_fault l s _ f k h = absurd k
 
 pub one_look : OneLook
 one_look l s (Ok u) (Ok v) k h = refl

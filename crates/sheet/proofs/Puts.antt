@@ -1,5 +1,5 @@
 -- What the records say after one port was made to name another.
-use Rattle.std.proofs.Common.{◌≡◌, ℕ, ◌<◌, ◌≤◌, true, cond, ltb, ◌≢◌, List, length, set, Some, None, Option, sym, refl, ap, ◌∙◌, ⊎_elim, length-set, get_or-set_other, get_or-set_same}
+use Rattle.std.proofs.Common.{◌≡◌, ℕ, ◌<◌, ◌≤◌, cond, ltb, ◌≢◌, List, length, set, Some, None, Option, sym, refl, ap, ◌∙◌, ⊎_elim, length-set, get_or-set_other, get_or-set_same}
 use Rattle.std.proofs.lemmas.List.{get_or_past}
 use Rattle.std.proofs.lemmas.Bool.{cases_eq, cases_lt}
 use Rattle.std.proofs.lemmas.Option.{get_or_from_slice_get, slice_get-get_or}
@@ -12,7 +12,7 @@ use Rattle.plan.specs.declared.parts.Side.TheVariants.{West, East as EastSide, B
 use Rattle.plan.specs.declared.parts.Port.{Port}
 use Rattle.plan.proofs.Ports.{port_eq}
 use Rattle.sheet.specs.declared.component.Component.{Component}
-use Rattle.sheet.specs.Records.{blank_component, at, named_at, naming, named, put_in, kinds, sections_of, components_of, section_stands}
+use Rattle.sheet.specs.Records.{blank_component, at, named_at, naming, named, put_in, kinds, sections_of, components_of}
 
 -- functions that agree everywhere are equal
 pub ext : {A B : Type 0} (f g : A → B) → ((x : A) → f x ≡ g x) → f ≡ g
@@ -89,12 +89,6 @@ module _ (rs : List Component) (p : Port) (x : Option Port) where
       let k = ext (kinds (put_in rs p x) n) (kinds rs n) (λ c. ap (λ y. cond (ltb c n) y Straight) (put_kind h c)) in
       let s = ext (sections_of (put_in rs p x) n) (sections_of rs n) (λ c. ap (λ y. cond (ltb c n) y 0) (put_section h c)) in
       λ i. record { count = n; kind = k i; section = s i; far = λ q. None }
-
-  pub put_stands : p.component < length rs → (s c : ℕ) → section_stands (at rs c) s ≡ true → section_stands (at (put_in rs p x) c) s ≡ true
-  put_stands h s c e = put_keeps (λ r. section_stands r s) kept h c ∙ e
-    where
-      kept : section_stands (naming (at rs p.component) p.side x) s ≡ section_stands (at rs p.component) s
-      kept = rw (naming_kind (at rs p.component) p.side x, naming_section (at rs p.component) p.side x)
 
   pub put_same : p.component < length rs → named (put_in rs p x) p ≡ x
   unfolding put_in named

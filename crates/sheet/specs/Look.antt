@@ -1,16 +1,16 @@
 -- Looking over a sheet.
 use Rattle.std.specs.Prelude.{◌≡◌, ℕ, ◌<◌, Bool, true, false, cond, ◌&&◌, is_some, Some, None, Ok, Err, Option, Result, ◌==◌}
 use Rattle.fault.specs.declared.kinds.PlanFault.{PlanFault}
-use Rattle.fault.specs.declared.kinds.PlanFault.TheVariants.{File, SheetFull, WrongLetter, NoSuchPart, NotOpposed, NotNamedBack, AlreadyConnected, BlankPort, WrongSwitchCount}
+use Rattle.fault.specs.declared.kinds.PlanFault.TheVariants.{BlankPort, WrongSwitchCount}
 use Rattle.plan.specs.declared.parts.Kind.{Kind}
 use Rattle.plan.specs.declared.parts.Side.TheVariants.{West as WestSide, East as EastSide, Branch}
-use Rattle.plan.specs.Layout.{Layout, is_switch, port as port_at}
+use Rattle.plan.specs.Layout.{Layout, is_switch, port}
 
 -- a component that is a switch has no blank port
 abbrev pub is_whole : Layout → ℕ → Bool
 is_whole l c =
     cond (is_switch (l.kind c))
-    (is_some (l.far (port_at c WestSide)) && (is_some (l.far (port_at c EastSide)) && is_some (l.far (port_at c Branch))))
+    (is_some (l.far (port c WestSide)) && (is_some (l.far (port c EastSide)) && is_some (l.far (port c Branch))))
     true
 
 -- a component of this kind and point section is a switch of the point section s
@@ -53,13 +53,7 @@ abbrev pub Looked : Layout → ℕ → Result (Unit {0}) PlanFault → Type 0
 Looked l s (Ok u) = Whole l s
 Looked l s (Err (BlankPort c)) = FirstBlank l c
 Looked l s (Err (WrongSwitchCount k)) = FirstEmpty l s k
-Looked l s (Err (File f)) = ⊥
-Looked l s (Err SheetFull) = ⊥
-Looked l s (Err WrongLetter) = ⊥
-Looked l s (Err (NoSuchPart p)) = ⊥
-Looked l s (Err (NotOpposed p)) = ⊥
-Looked l s (Err (NotNamedBack p)) = ⊥
-Looked l s (Err AlreadyConnected) = ⊥
+Looked l s (Err _) = ⊥
 
 -- no sheet has two answers
 abbrev pub OneLook : Type 0

@@ -5,7 +5,7 @@ use Rattle.fault.specs.declared.kinds.PlanFault.TheVariants.{SheetFull, WrongLet
 use Rattle.plan.specs.declared.parts.Kind.{Kind}
 use Rattle.plan.specs.declared.parts.Side.{Side}
 use Rattle.plan.specs.declared.parts.Port.{Port}
-use Rattle.plan.specs.Layout.{Layout, port as port_at}
+use Rattle.plan.specs.Layout.{Layout, port}
 use Rattle.plan.specs.Letters.{is_letter}
 use Rattle.sheet.specs.declared.sheet.Sheet.{Sheet}
 use Rattle.sheet.specs.Records.{blank_component, put_in}
@@ -48,7 +48,7 @@ pub record SameSpace (before after : Sheet) : Type 0 where
 
 pub record ComponentAdded (before after : Sheet) (k : Kind) (section : ℕ) : Type 0 where
   pub layout : plan_of after ≡ with_component (plan_of before) k section
-  pub blank : (d : Side) → (plan_of after).far (port_at before.count d) ≡ None
+  pub blank : (d : Side) → (plan_of after).far (port before.count d) ≡ None
   pub records : after.records.now ≡ slice_set before.records.now before.count (blank_component k section)
   pub count : after.count ≡ before.count + 1
   pub sections : after.sections ≡ before.sections

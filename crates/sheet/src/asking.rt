@@ -8,7 +8,7 @@ use crate::sheet::Sheet;
 use fault::kinds::PlanFault;
 use plan::parts::Port;
 
-impl<'a> Sheet<'a> {
+impl Sheet<'_> {
     pub fn count(&self) -> u16
         ensures { result ≡ (plan_of self.now).count }
     {

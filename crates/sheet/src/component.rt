@@ -5,7 +5,7 @@ ghost use Rattle.sheet.specs.Records.{blank_component, named_at, naming};
 use plan::parts::{Kind, Port, Side};
 
 // A component as its record holds it. `section` says something of a switch only, and `branch` too.
-#[derive(Clone, Copy)]
+#[derive(Clone, Copy, PartialEq, Eq, Debug)]
 pub struct Component {
     pub kind: Kind,
     pub section: u16,

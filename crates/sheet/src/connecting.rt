@@ -7,7 +7,7 @@ use crate::sheet::Sheet;
 use fault::kinds::PlanFault;
 use plan::parts::Port;
 
-impl<'a> Sheet<'a> {
+impl Sheet<'_> {
     // Makes a port name another, or none.
     fn put(&mut self, port: Port, far: Option<Port>)
         requires { port.component < self.old.count }

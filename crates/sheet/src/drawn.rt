@@ -46,6 +46,7 @@ impl Drawn<'_> {
         here != there && port.component != other.component
     }
 
+    #[tactic(auto, unfolding(crate::specs::Connections::may_connect))]
     fn may_connect(&self, port: Port, other: Port) -> bool
         ensures { let rs = self.now.records.now in result ≡ may_connect (components_of rs (length rs)) port other }
     {
@@ -53,6 +54,7 @@ impl Drawn<'_> {
     }
 
     // What a port names, which need not name it in turn.
+    #[tactic(auto, using(crate::proofs::Puts::names_none, crate::proofs::Puts::names_some))]
     fn named(&self, port: Port) -> Option<Port>
         ensures { result ≡ named_in self.now.records.now port }
     {
@@ -68,6 +70,7 @@ impl Drawn<'_> {
     }
 
     // The far port of a port, none where it is blank or no port.
+    #[tactic(auto, unfolding(crate::specs::Connections::far_in))]
     fn far_of(&self, port: Port) -> Option<Port>
         ensures { result ≡ (drawn self.now.records.now).far port }
     {

@@ -5,7 +5,7 @@ ghost use Rattle.sheet.specs.Sheets.{plan_of};
 use crate::sheet::Sheet;
 use fault::kinds::PlanFault;
 
-impl<'a> Sheet<'a> {
+impl Sheet<'_> {
     // The first switch with a blank port.
     fn first_blank(&self) -> Option<u16>
         ensures { FirstBad self.now.count
@@ -29,6 +29,7 @@ impl<'a> Sheet<'a> {
     }
 
     // Refuses the first switch with a blank port, then the first point section without a switch.
+    #[tactic(auto, using(crate::proofs::Looks::one_look))]
     pub fn look_over(&self) -> Result<(), PlanFault>
         ensures looked { Looked (plan_of self.now) self.now.sections result }
         ensures one { OneLook }

@@ -5,7 +5,7 @@ use Rattle.lines.specs.Decimal.{decimal}
 use Rattle.lines.specs.Lines.{letter}
 use Rattle.lines.proofs.Shown.{shown_as}
 use Rattle.lines.proofs.Writing.{room_left, written_more}
-use Rattle.lines.proofs.rows.put_entry.Goals as goal
+use Rattle.lines.proofs.line.Line.entry.Goals as goal
 
 pub small-requires-clause-room : goal.small-requires-clause-room
 small-requires-clause-room c =
@@ -17,13 +17,13 @@ pub byte-requires : goal.byte-requires
 byte-requires c =
     let e = shown_as c.args.e (Some Normal) (sym c.lie.ensures ∙ c.in-Some-Normal.is ∙ ap Some c.in-Some-Normal.field-0-is) in
     let w = rw c.component.ensures at c.small.ensures in
-    room_left c.args.line.now c.small.new.self (decimal (c.args.e / 4)) (78 ∷ []) (rw e at c.requires.room) w
+    room_left c.args.self.now c.small.new.self (decimal (c.args.e / 4)) (78 ∷ []) (rw e at c.requires.room) w
 
 pub byte-requires-in-Some-Reverse : goal.byte-requires-in-Some-Reverse
 byte-requires-in-Some-Reverse c =
     let e = shown_as c.args.e (Some Reverse) (sym c.lie.ensures ∙ c.in-Some-Reverse.is ∙ ap Some c.in-Some-Reverse.field-0-is) in
     let w = rw c.component.ensures at c.small.ensures in
-    room_left c.args.line.now c.small.new.self (decimal (c.args.e / 4)) (82 ∷ []) (rw e at c.requires.room) w
+    room_left c.args.self.now c.small.new.self (decimal (c.args.e / 4)) (82 ∷ []) (rw e at c.requires.room) w
 
 pub returns-in-Some-Normal : goal.returns-in-Some-Normal
 returns-in-Some-Normal c =
