@@ -77,7 +77,10 @@ fn print_day(
 
 // The orders in words; they go into the day.
 fn all_words(heap: Global, orders: &[Order]) -> Result<Vec<String>, AllocError> {
-    orders.iter().map(|order| order.to_string(heap)).collect::<Result<_, _>>(heap)?
+    orders
+        .iter()
+        .map(|order| order.to_string(heap))
+        .collect::<Result<_, _>>(heap)?
 }
 
 fn print_answers(rt: &HostRuntime, words: &[String], answers: &[Answer]) -> anyhow::Result<()> {

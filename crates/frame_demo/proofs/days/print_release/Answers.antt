@@ -1,4 +1,4 @@
-use Rattle.std.proofs.Common.{vec_items, refl}
+use Rattle.std.proofs.Common.{vec_items}
 use Rattle.frame.specs.View.{view}
 use Rattle.frame_demo.proofs.Matches.{matched_released}
 use Rattle.frame_demo.proofs.days.print_release.Goals as goal
