@@ -28,7 +28,8 @@ pub(crate) fn print_days(rt: &HostRuntime, pool: &mut Vec<Slip>) -> anyhow::Resu
 }
 
 // A day at each station. The first leaves a route open, so its slip is a foreign one on the second; what the second leaves
-// in the pool is released at the first.
+// in the pool is released at the first. The frames and the pool are no struct that keeps `Matched`, which does not hold while
+// a slip is out of the pool.
 fn print_both(
     rt: &HostRuntime,
     first: &mut Frame,
@@ -76,11 +77,10 @@ fn print_day(
 
 // The orders in words; they go into the day.
 fn all_words(heap: Global, orders: &[Order]) -> Result<Vec<String>, AllocError> {
-    let mut words = Vec::new(heap);
-    for order in orders {
-        words.push(order.to_string(heap)?)?;
-    }
-    Ok(words)
+    orders
+        .iter()
+        .map(|order| order.to_string(heap))
+        .collect::<Result<_, _>>(heap)?
 }
 
 fn print_answers(rt: &HostRuntime, words: &[String], answers: &[Answer]) -> anyhow::Result<()> {

@@ -1,5 +1,5 @@
 -- What each call promises of the register or the frame, as a note in the journal of the box.
-use Rattle.std.proofs.Common.{◌≡◌, ℕ, ◌+◌, Bool, true, false, List, [], ◌∷◌, ◌++◌, is_ok, IfOk, IfErr, Some, None, Ok, Err, Result, sym, refl, ap, ◌∙◌, subst}
+use Rattle.std.proofs.Common.{◌≡◌, ℕ, ◌+◌, Bool, true, false, List, [], ◌∷◌, ◌++◌, is_ok, IfOk, IfErr, OnOk, OnErr, Some, None, Ok, Err, Result, sym, refl, ap, ◌∙◌, subst}
 use Rattle.fault.specs.declared.kinds.BoxFault.{BoxFault}
 use Rattle.plan.specs.declared.parts.Position.{Position}
 use Rattle.plan.specs.Layout.{Layout}
@@ -57,19 +57,19 @@ module _ {P : Type 0} (l : Layout) (j : Journal) (x : SignalBox P) (kept : Kept 
   by_book : (T : Book → Type 0) → T b → T j.book
   by_book T t = subst T kept.book t
 
-  pub thrown : (f : Frame) (c : ℕ) (p : Position) (r : Result (Unit {0}) BoxFault) → Throwing l b c (refusal r) → (is_ok r ≡ false → f ≡ x.frame)
-      → (is_ok r ≡ true → view f ≡ laid b c p) → Noted l j (Thrown c p r) (with_frame f)
+  pub thrown : (f : Frame) (c : ℕ) (p : Position) (r : Result (Unit {0}) BoxFault) → Throwing l b c (refusal r) → OnErr r (f ≡ x.frame)
+      → OnOk r (view f ≡ laid b c p) → Noted l j (Thrown c p r) (with_frame f)
   thrown f c p (Ok u) told same laid_so =
       let d = by_book (λ y. Throwing l y c None) told in
       record {
         demanded = d;
         kept = record {
-          book = laid_so refl ∙ ap (λ (y : Book). laid y c p) kept.book;
+          book = laid_so ∙ ap (λ (y : Book). laid y c p) kept.book;
           handed = kept.handed;
           safe = safe_laid l j.book j.out kept.safe c p d.1.0;
         };
       }
-  thrown f c p (Err e) told same laid_so = record { demanded = by_book (λ y. Throwing l y c (Some e)) told; kept = same_frame f (same refl) }
+  thrown f c p (Err e) told same laid_so = record { demanded = by_book (λ y. Throwing l y c (Some e)) told; kept = same_frame f same }
 
   marked_so : (f : Frame) (n : ℕ) (m : Bool) → view f ≡ marked b n m → Kept l (record { rows = j.rows; book = marked j.book n m; out = j.out }) (with_frame f)
   marked_so f n m e = record {
@@ -78,17 +78,17 @@ module _ {P : Type 0} (l : Layout) (j : Journal) (x : SignalBox P) (kept : Kept 
     safe = safe_marked l j.book j.out kept.safe n m;
   }
 
-  pub occupied : (f : Frame) (n : ℕ) (r : Result (Unit {0}) BoxFault) → Marking l n (refusal r) → (is_ok r ≡ false → f ≡ x.frame)
-      → (is_ok r ≡ true → view f ≡ marked b n true) → Noted l j (Occupied n r) (with_frame f)
-  occupied f n (Ok u) told same e = record { demanded = told; kept = marked_so f n true (e refl) }
-  occupied f n (Err y) told same e = record { demanded = told; kept = same_frame f (same refl) }
+  pub occupied : (f : Frame) (n : ℕ) (r : Result (Unit {0}) BoxFault) → Marking l n (refusal r) → OnErr r (f ≡ x.frame)
+      → OnOk r (view f ≡ marked b n true) → Noted l j (Occupied n r) (with_frame f)
+  occupied f n (Ok u) told same e = record { demanded = told; kept = marked_so f n true e }
+  occupied f n (Err y) told same e = record { demanded = told; kept = same_frame f same }
 
-  pub cleared : (f : Frame) (n : ℕ) (r : Result (Unit {0}) BoxFault) → Marking l n (refusal r) → (is_ok r ≡ false → f ≡ x.frame)
-      → (is_ok r ≡ true → view f ≡ marked b n false) → Noted l j (Cleared n r) (with_frame f)
-  cleared f n (Ok u) told same e = record { demanded = told; kept = marked_so f n false (e refl) }
-  cleared f n (Err y) told same e = record { demanded = told; kept = same_frame f (same refl) }
+  pub cleared : (f : Frame) (n : ℕ) (r : Result (Unit {0}) BoxFault) → Marking l n (refusal r) → OnErr r (f ≡ x.frame)
+      → OnOk r (view f ≡ marked b n false) → Noted l j (Cleared n r) (with_frame f)
+  cleared f n (Ok u) told same e = record { demanded = told; kept = marked_so f n false e }
+  cleared f n (Err y) told same e = record { demanded = told; kept = same_frame f same }
 
-  pub opened : (f : Frame) (s : List ℕ) (r : Result Slip BoxFault) → Opening l b s (refusal r) → IfOk r (λ k. k.serial ≡ b.given + 1) → (is_ok r ≡ false → f ≡ x.frame)
+  pub opened : (f : Frame) (s : List ℕ) (r : Result Slip BoxFault) → Opening l b s (refusal r) → IfOk r (λ k. k.serial ≡ b.given + 1) → OnErr r (f ≡ x.frame)
       → IfOk r (λ k. view f ≡ opened_with b k.serial (entries_of s)) → Noted l j (Opened s (serial_given r)) (with_frame f)
   opened f s (Ok k) told serial same e =
       let d = by_book (λ y. Opening l y s None) told in
@@ -102,14 +102,14 @@ module _ {P : Type 0} (l : Layout) (j : Journal) (x : SignalBox P) (kept : Kept 
           safe = subst S (sym n) (safe_opened l j.book j.out kept.safe (entries_of s) d.0.1 d.1.0 d.1.1.0);
         };
       }
-  opened f s (Err y) told serial same e = record { demanded = (by_book (λ z. Opening l z s (Some y)) told, tt); kept = same_frame f (same refl) }
+  opened f s (Err y) told serial same e = record { demanded = (by_book (λ z. Opening l z s (Some y)) told, tt); kept = same_frame f same }
 
   pub released : (f : Frame) (slip : Slip) (r : Result (Unit {0}) (BoxFault × Slip)) → Releasing b slip.serial (kept_refusal r)
-      → IfErr r (λ y. (y.1 ≡ slip) × (f ≡ x.frame)) → (is_ok r ≡ true → view f ≡ closed_at b slip.serial) → Noted l j (Released slip.serial (unkept r)) (with_frame f)
+      → IfErr r (λ y. (y.1 ≡ slip) × (f ≡ x.frame)) → OnOk r (view f ≡ closed_at b slip.serial) → Noted l j (Released slip.serial (unkept r)) (with_frame f)
   released f slip (Ok u) told back e = record {
     demanded = by_book (λ y. Releasing y slip.serial None) told;
     kept = record {
-      book = e refl ∙ ap (λ (y : Book). closed_at y slip.serial) kept.book;
+      book = e ∙ ap (λ (y : Book). closed_at y slip.serial) kept.book;
       handed = kept.handed;
       safe = safe_closed l j.book j.out kept.safe slip.serial;
     };

@@ -1,4 +1,4 @@
-ghost use Rattle.std.specs.Prelude.{◌≡◌, true, false, is_ok};
+ghost use Rattle.std.specs.Prelude.{◌≡◌, true, false, OnOk, OnErr};
 ghost use Rattle.frame.specs.Book.{marked};
 ghost use Rattle.frame.specs.Calls.{Marking};
 ghost use Rattle.frame.specs.Tests.{refusal};
@@ -13,8 +13,8 @@ impl Frame {
     // A train is in the section.
     pub fn occupy<P: Plan>(&mut self, plan: &P, section: u16) -> Result<(), BoxFault>
         ensures told { Marking (P.layout plan.now) section (refusal result) }
-        ensures refused { is_ok result ≡ false → self.new ≡ self.old }
-        ensures after { is_ok result ≡ true → view self.new ≡ marked (view self.old) section true }
+        ensures refused { OnErr result (self.new ≡ self.old) }
+        ensures after { OnOk result (view self.new ≡ marked (view self.old) section true) }
     {
         known(plan, section)?;
         self.occupied.insert(section);
@@ -24,8 +24,8 @@ impl Frame {
     // No train is in the section.
     pub fn clear<P: Plan>(&mut self, plan: &P, section: u16) -> Result<(), BoxFault>
         ensures told { Marking (P.layout plan.now) section (refusal result) }
-        ensures refused { is_ok result ≡ false → self.new ≡ self.old }
-        ensures after { is_ok result ≡ true → view self.new ≡ marked (view self.old) section false }
+        ensures refused { OnErr result (self.new ≡ self.old) }
+        ensures after { OnOk result (view self.new ≡ marked (view self.old) section false) }
     {
         known(plan, section)?;
         self.occupied.remove(section);

@@ -1,4 +1,4 @@
-ghost use Rattle.std.specs.Prelude.{◌≡◌, ◌+◌, ◌/◌, ◌%◌, ◌<◌, true, false, is_ok, IfOk, OnOk, MatchBool};
+ghost use Rattle.std.specs.Prelude.{◌≡◌, ◌+◌, ◌/◌, ◌%◌, ◌<◌, IfOk, OnOk, MatchBool, OnErr};
 ghost use Rattle.arrayvec.specs.ArrayVec.{array_vec_len};
 ghost use Rattle.row.specs.Row.{entries_of};
 ghost use Rattle.row.specs.View.{entries};
@@ -27,7 +27,7 @@ impl Frame {
     pub fn open<P: Plan>(&mut self, plan: &P, row: &[u8]) -> Result<Slip, BoxFault>
         ensures told { Opening (P.layout plan.now) (view self.old) row.now (refusal result) }
         ensures serial { IfOk result (λ s. s.serial ≡ (view self.old).given + 1) }
-        ensures refused { is_ok result ≡ false → self.new ≡ self.old }
+        ensures refused { OnErr result (self.new ≡ self.old) }
         ensures after { IfOk result (λ s. view self.new ≡ opened_with (view self.old) s.serial (entries_of row.now)) }
     {
         let entries = self.admit(plan, row)?;

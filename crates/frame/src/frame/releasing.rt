@@ -1,4 +1,4 @@
-ghost use Rattle.std.specs.Prelude.{◌≡◌, true, is_ok, IfErr};
+ghost use Rattle.std.specs.Prelude.{◌≡◌, IfErr, OnOk};
 ghost use Rattle.frame.specs.Book.{closed_at};
 ghost use Rattle.frame.specs.Calls.{Releasing};
 ghost use Rattle.frame.specs.Placed.{Placed};
@@ -22,7 +22,7 @@ impl Frame {
     pub fn release(&mut self, slip: Slip) -> Result<(), (BoxFault, Slip)>
         ensures told { Releasing (view self.old) slip.serial (kept_refusal result) }
         ensures kept { IfErr result (λ y. (y.1 ≡ slip) × (self.new ≡ self.old)) }
-        ensures after { is_ok result ≡ true → view self.new ≡ closed_at (view self.old) slip.serial }
+        ensures after { OnOk result (view self.new ≡ closed_at (view self.old) slip.serial) }
     {
         let Some(i) = place(self.open_routes(), slip.serial) else {
             return Err((BoxFault::UnknownSlip, slip));

@@ -1,4 +1,4 @@
-ghost use Rattle.std.specs.Prelude.{◌≡◌, ◌<◌, true, false, is_ok};
+ghost use Rattle.std.specs.Prelude.{◌≡◌, ◌<◌, OnOk, OnErr};
 ghost use Rattle.frame.specs.Book.{laid};
 ghost use Rattle.frame.specs.Calls.{Throwing};
 ghost use Rattle.frame.specs.Tests.{refusal};
@@ -15,8 +15,8 @@ impl Frame {
     // Lays a switch, unless it is on an open route or its point section is occupied.
     pub fn throw<P: Plan>(&mut self, plan: &P, switch: u16, to: Position) -> Result<(), BoxFault>
         ensures told { Throwing (P.layout plan.now) (view self.old) switch (refusal result) }
-        ensures refused { is_ok result ≡ false → self.new ≡ self.old }
-        ensures after { is_ok result ≡ true → view self.new ≡ laid (view self.old) switch to }
+        ensures refused { OnErr result (self.new ≡ self.old) }
+        ensures after { OnOk result (view self.new ≡ laid (view self.old) switch to) }
     {
         let section = point_section(plan, switch)?;
         if is_held(self.open_routes(), switch) {

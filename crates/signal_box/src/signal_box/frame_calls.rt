@@ -1,4 +1,4 @@
-ghost use Rattle.std.specs.Prelude.{◌≡◌, false, is_ok, IfErr};
+ghost use Rattle.std.specs.Prelude.{◌≡◌, IfErr, OnErr};
 ghost use Rattle.signal_box.specs.Journal.Event.{Thrown, Occupied, Cleared, Opened, Released};
 ghost use Rattle.signal_box.specs.Kept.{Notes};
 ghost use Rattle.signal_box.specs.Slips.{serial_given, unkept};
@@ -12,7 +12,7 @@ use plan::parts::Position;
 impl<P: Plan> SignalBox<P> {
     // Lays a switch.
     pub fn throw(&mut self, switch: u16, to: Position) -> Result<(), BoxFault>
-        ensures refused { is_ok result ≡ false → self.new ≡ self.old }
+        ensures refused { OnErr result (self.new ≡ self.old) }
         ensures journal { Notes P.layout self.old (Thrown switch to result) self.new }
     {
         self.frame.throw(self.register.plan(), switch, to)
@@ -20,7 +20,7 @@ impl<P: Plan> SignalBox<P> {
 
     // A train is in the section.
     pub fn occupy(&mut self, section: u16) -> Result<(), BoxFault>
-        ensures refused { is_ok result ≡ false → self.new ≡ self.old }
+        ensures refused { OnErr result (self.new ≡ self.old) }
         ensures journal { Notes P.layout self.old (Occupied section result) self.new }
     {
         self.frame.occupy(self.register.plan(), section)
@@ -28,7 +28,7 @@ impl<P: Plan> SignalBox<P> {
 
     // No train is in the section.
     pub fn clear(&mut self, section: u16) -> Result<(), BoxFault>
-        ensures refused { is_ok result ≡ false → self.new ≡ self.old }
+        ensures refused { OnErr result (self.new ≡ self.old) }
         ensures journal { Notes P.layout self.old (Cleared section result) self.new }
     {
         self.frame.clear(self.register.plan(), section)
@@ -36,7 +36,7 @@ impl<P: Plan> SignalBox<P> {
 
     // Opens a row and gives the slip that closes it.
     pub fn open(&mut self, row: &[u8]) -> Result<Slip, BoxFault>
-        ensures refused { is_ok result ≡ false → self.new ≡ self.old }
+        ensures refused { OnErr result (self.new ≡ self.old) }
         ensures journal { Notes P.layout self.old (Opened row.now (serial_given result)) self.new }
     {
         self.frame.open(self.register.plan(), row)

@@ -1,4 +1,4 @@
-ghost use Rattle.std.specs.Prelude.{◌≡◌, false, is_ok};
+ghost use Rattle.std.specs.Prelude.{◌≡◌, OnErr};
 ghost use Rattle.signal_box.specs.Journal.{unwritten};
 ghost use Rattle.signal_box.specs.Journal.Event.{Turned, Restarted};
 ghost use Rattle.signal_box.specs.Kept.{Kept, Notes};
@@ -32,7 +32,7 @@ impl<P: Plan> SignalBox<P> {
 
     // Writes the next route's row at the front of the space and answers its length in bytes.
     pub fn turn(&mut self, space: &mut [u8]) -> Result<usize, BoxFault>
-        ensures refused { is_ok result ≡ false → (self.new ≡ self.old) × (space.new ≡ space.old) }
+        ensures refused { OnErr result ((self.new ≡ self.old) × (space.new ≡ space.old)) }
         ensures journal { Notes P.layout self.old (Turned space.old space.new result) self.new }
     {
         self.register.turn(space)

@@ -1,4 +1,4 @@
-use Rattle.std.proofs.Common.{ℕ, [], ◌∷◌, ◌++◌, Some, sym, refl, ap, subst}
+use Rattle.std.proofs.Common.{ℕ, [], ◌∷◌, ◌++◌, Some, sym, ap, subst}
 use Rattle.frame.specs.declared.frame.Frame.{Frame}
 use Rattle.frame.specs.declared.slip.Slip.{Slip}
 use Rattle.frame.specs.Calls.{Releasing}
@@ -18,7 +18,7 @@ unreachable-requires c =
 pub returns-in-Ok : goal.returns-in-Ok
 returns-in-Ok c = λ p m.
     let e = c.in-Ok.ensures in
-    matched_closed_second c.args.slip.serial p (view c.args.first.now) (view c.args.second.now) m (view c.release.new.self) e.told.0 (e.after refl)
+    matched_closed_second c.args.slip.serial p (view c.args.first.now) (view c.args.second.now) m (view c.release.new.self) e.told.0 e.after
 
 pub returns-in-Ok-release : goal.returns-in-Ok-release
 returns-in-Ok-release c = λ p m.
@@ -30,4 +30,4 @@ returns-in-Ok-release c = λ p m.
     let M : ℕ → Type 0 = λ n. Matched (p ++ n ∷ []) a b in
     let F : Frame → Type 0 = λ x. Matched p now (view x) in
     let back = subst M (sym (ap (λ (x : Slip). x.serial) kept.0)) m in
-    subst F (sym kept.1) (matched_closed_first c.in-Err.slip.serial p a b back now e.told.0 (e.after refl))
+    subst F (sym kept.1) (matched_closed_first c.in-Err.slip.serial p a b back now e.told.0 e.after)

@@ -11,4 +11,4 @@ returns-clause-after c =
     let F : List OpenRow → Type 0 = λ rows. Placed rows c.args.slip.serial (Some c.in-Some.i) in
     let placed = subst F c.open_routes.ensures c.in-Some.ensures in
     let rows = ap open_rows c.remove.ensures.items ∙ map_removed open_row c.in-Some.i f.routes.items ∙ sym placed.2 in
-    λ _. ap (λ (opened : List OpenRow). record { position = position_in f.reversed; occupied = occupied_in f.occupied; opened = opened; given = f.given }) rows
+    ap (λ (opened : List OpenRow). record { position = position_in f.reversed; occupied = occupied_in f.occupied; opened = opened; given = f.given }) rows
