@@ -1,15 +1,12 @@
 -- Which entries follow an entry.
-use Rattle.std.proofs.Common.{◌≡◌, ℕ, ◌+◌, ◌*◌, ◌/◌, ◌%◌, ◌<◌, ◌≤◌, Bool, true, false, cond, ◌&&◌, eqb, ◌⊎◌, Some, None, Option, sym, refl, ◌∙◌, subst, inl, inr, ⊎_elim, arith}
+use Rattle.std.proofs.Common.{◌≡◌, ℕ, ◌+◌, ◌*◌, ◌/◌, ◌%◌, ◌<◌, Bool, true, false, cond, ◌&&◌, eqb, ◌⊎◌, Some, None, Option, sym, refl, ◌∙◌, subst, inl, inr, ⊎_elim, arith}
 use Rattle.std.proofs.lemmas.Bool.{cases_Bool, eq-eqb, ne_eqb}
 use Rattle.plan.specs.declared.parts.Side.TheVariants.{Branch}
 use Rattle.plan.specs.declared.parts.Direction.{Direction}
-use Rattle.plan.specs.declared.parts.Kind.{Kind}
 use Rattle.plan.specs.declared.parts.Port.{Port}
 use Rattle.plan.specs.Layout.{Layout, Lawful}
 use Rattle.plan.proofs.Ports.{far_below}
-use Rattle.route.specs.declared.steps.Range.{Range}
-use Rattle.route.specs.Paths.{exit_of, facing, towards, MayLie, Enters, Follows}
-use Rattle.route.specs.Steps.{Exactly}
+use Rattle.route.specs.Paths.{exit_of, facing, towards, Enters, Follows}
 
 entered : (l : Layout) (o : Option Port) (e : ℕ) → Enters l o e → (p : Port) × (o ≡ Some p)
 entered l None e h = absurd h
@@ -29,24 +26,6 @@ enters_one l (Some p) e e' h h' = h.0 ∙ sym h'.0
 
 pub follows_one : (l : Layout) (d : Direction) (x e e' : ℕ) → Follows l d x e → Follows l d x e' → e / 4 ≡ e' / 4
 follows_one l d x e e' = enters_one l (l.far (exit_of l d x)) e e'
-
-pub follows_exactly : (l : Layout) (d : Direction) (e : ℕ) (p : Port) (k : Kind) (x : Range) → l.far (exit_of l d e) ≡ Some p → k ≡ l.kind p.component → Exactly (MayLie k p.side) x → x.high ≤ 2 → Exactly (Follows l d e) (record { low = 4 * p.component + x.low; high = 4 * p.component + x.high })
-follows_exactly l d e p k x far kind exact small =
-    let E : ℕ → Option Port → Type 0 = λ e' o. Enters l o e' in
-    let M : ℕ → Kind → Type 0 = λ z q. MayLie q p.side z in
-    let some = exact.some in
-    record {
-      some = omega arith;
-      inside = λ e' low high.
-          subst (E e') (sym far) (omega arith, subst (M (e' % 4)) kind (exact.inside (e' % 4) (omega arith) (omega arith)));
-      outside = λ e' h.
-          let s = subst (E e') far h in
-          let c = s.0 in
-          let z = exact.outside (e' % 4) (subst (M (e' % 4)) (sym kind) s.1) in
-          let low = z.0 in
-          let high = z.1 in
-          (omega arith, omega arith);
-    }
 
 -- how a component lies matters only to whether it is left by its branch
 pub follows_either : (l : Layout) (d : Direction) (e e' : ℕ) → Follows l d e e' → Follows l d (4 * (e / 4) + 1) e' ⊎ Follows l d (4 * (e / 4) + 2) e'

@@ -1,11 +1,6 @@
 -- Going back past entries that no other can stand in the place of.
-use Rattle.std.proofs.Common.{◌≡◌, ℕ, zero, suc, ◌+◌, ◌%◌, ◌<◌, ◌≤◌, Bool, true, false, cond, eqb, ◌⊎◌, List, [], ◌∷◌, ◌++◌, length, get_or, take, Some, None, Option, sym, ap, ◌∙◌, subst, ⊎_elim, arith, length-append}
+use Rattle.std.proofs.Common.{◌≡◌, ℕ, zero, suc, ◌+◌, ◌%◌, ◌<◌, ◌≤◌, Bool, true, false, cond, ◌⊎◌, List, [], ◌∷◌, ◌++◌, length, get_or, take, Some, None, Option, sym, ap, ◌∙◌, subst, ⊎_elim, arith, length-append}
 use Rattle.std.proofs.lemmas.List.{append_assoc, take_more, take_all, get_or-take, length-take-le}
-use Rattle.std.proofs.lemmas.Bool.{eq-eqb, true≢false}
-use Rattle.std.specs.Option.{option_eq}
-use Rattle.plan.specs.contracts.parts.PositionPartialEq.TheImpl as lies
-use Rattle.plan.specs.declared.parts.Position.TheVariants.{Normal, Reverse}
-use Rattle.row.specs.Lies.{lie_of}
 use Rattle.plan.specs.declared.parts.Kind.{Kind}
 use Rattle.plan.specs.declared.parts.Kind.TheVariants.{Signal, Switch, Straight}
 use Rattle.plan.specs.declared.parts.Side.{Side}
@@ -20,13 +15,6 @@ use Rattle.search.proofs.Forward.{Ahead, ahead_back}
 -- no entry of the list is a switch that lies normal
 abbrev pub Settles : List ℕ → Type 0
 Settles t = (i : ℕ) → i < length t → get_or t i 0 % 4 ≡ 1 → ⊥
-
-pub settles_more : (e : ℕ) (t : List ℕ) → (e % 4 ≡ 1 → ⊥) → Settles t → Settles (e ∷ t)
-settles_more e t h s zero l = h
-settles_more e t h s (suc i) l = s i (omega arith)
-
-pub put_back : (p q q' t : List ℕ) (e : ℕ) → p ≡ q ++ t → q ≡ q' ++ e ∷ [] → p ≡ q' ++ e ∷ t
-put_back p q q' t e a b = a ∙ ap (λ x. x ++ t) b ∙ append_assoc q' (e ∷ []) t
 
 switch_most : (at_root : Bool) (p : Side) (z z' : ℕ) → cond at_root ((z ≡ 1) ⊎ (z ≡ 2)) (z ≡ trailing p) → cond at_root ((z' ≡ 1) ⊎ (z' ≡ 2)) (z' ≡ trailing p) → (z ≡ 1 → ⊥) → z' ≤ z
 switch_most true p z z' h k n =
@@ -74,9 +62,3 @@ ahead_retreat l p q e (suc n) t f h s a m =
     (λ i k z. let j : i < n = omega (arith, length-take-le n t (omega arith)) in s i (omega arith) (ap (λ y. y % 4) (sym (get_or-take n t i 0 j)) ∙ z))
     (ahead_back l p r x f a' (subst M same m))
     (last_sibling l r x some (s n low) (grown_at (May l) r [] x a'.begun))
-
--- an entry that is not found to be that of a switch lying normal is none
-pub not_normal : (e : ℕ) → option_eq lies.ghosts.eq (lie_of e) (Some Normal) ≡ false → e % 4 ≡ 1 → ⊥
-not_normal e other h =
-    let yes = ap (λ b. option_eq lies.ghosts.eq (cond b (Some Normal) (cond (eqb (e % 4) 2) (Some Reverse) None)) (Some Normal)) (eq-eqb (e % 4) 1 h) in
-    true≢false (sym yes ∙ other)

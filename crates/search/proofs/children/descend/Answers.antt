@@ -1,10 +1,5 @@
-use Rattle.search.proofs.Descents.{stayed, descended}
+use Rattle.search.proofs.Descents.{descended}
 use Rattle.search.proofs.children.descend.Goals as goal
-
-pub returns-in_default : goal.returns-in_default
-returns-in_default g c =
-    let p = c.args.plan.now in
-    stayed (g.P.Plan.layout p) (g.P.Plan.lawful p) c.args.from c.args.at.now c.entries.result.now c.entries.ensures.value c.in_default.ensures.least
 
 pub returns : goal.returns
 returns g c =

@@ -1,14 +1,8 @@
 use Rattle.std.proofs.Common.{◌/◌, eqb, sym, ap, ◌∙◌}
-use Rattle.std.proofs.lemmas.Bool.{eqb-true}
 use Rattle.sets.specs.Members.{has, joined}
 use Rattle.sets.proofs.Membership.{not_in}
-use Rattle.search.proofs.Floods.{marked_old, marked_new}
+use Rattle.search.proofs.Floods.{marked_new}
 use Rattle.search.proofs.flood.Flood.mark.Goals as goal
-
-pub returns-then-contains : goal.returns-then-contains
-returns-then-contains g c =
-    let range = c.in-Some.ensures in
-    marked_old (g.P.Plan.layout c.args.plan.now) c.args.way c.args.from c.in-Some.range range.exact c.args.self.now (eqb-true _ 1 (ap (λ n. eqb (has c.args.self.now.seen n) 1) (sym c.component-component.ensures) ∙ sym c.if-contains.ensures))
 
 pub returns : goal.returns
 returns g c =

@@ -4,9 +4,6 @@ use Rattle.sets.specs.Members.{left}
 use Rattle.search.proofs.Ties.{tied_less}
 use Rattle.search.proofs.position.Position.pop.Goals as goal
 
-pub returns-in_default : goal.returns-in_default
-returns-in_default c = let h = c.in_default.ensures in (h.0, ap entries h.1 ∙ h.0)
-
 pub invariant_of-self-2 : goal.invariant_of-self-2
 invariant_of-self-2 c =
     let s = c.args.self.now in
