@@ -42,7 +42,7 @@ pub fn run_day<P: Plan + Drop>(
     })
 }
 
-// Performs the orders one after another.
+// Performs the orders one after another. A `for` and no chain: what a chain's closure changed is not known afterwards.
 fn serve<P: Plan>(
     heap: Global,
     station: &mut SignalBox<P>,

@@ -10,7 +10,7 @@ pub struct OpenRoute {
     pub(crate) row: Entries,
 }
 
-// What the frame's free places hold; no slip has the serial 0.
+// What the frame's free places hold; no slip has the serial 0. Not derived, since `Entries` has ghost fields and no default.
 impl Default for OpenRoute {
     ghost is_default = { λ r. (r.serial ≡ 0) × (entries r.row ≡ []) };
 
