@@ -1,19 +1,14 @@
 use anyhow::anyhow;
 use fault::kinds::BoxFault;
 use lines::closing::Closing;
-use lines::rows::write_row_line;
+use lines::rows::{LONGEST_LINE, write_row_line};
 use plan::interface::Plan;
 use register::registers::Register;
+use row::writing::LONGEST_ROW;
 use std::io::Write;
 
 // More turns than the stations here have routes.
 const TURNS: usize = 64;
-
-// A row has at most 512 entries of two bytes each behind its count.
-const LONGEST_ROW: usize = 1_026;
-
-// The longest line: 512 components of three digits, each with its letter and a space or the line's end behind it.
-const LONGEST_LINE: usize = 2_560;
 
 // Prints the line that the call writes.
 fn print_line<F: FnOnce(&mut [u8]) -> Result<usize, BoxFault>>(

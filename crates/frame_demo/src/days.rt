@@ -5,13 +5,14 @@ ghost use Rattle.day.specs.Balance.{copies, open_serials, Balanced};
 ghost use Rattle.day.specs.Pool.{serials};
 ghost use Rattle.frame_demo.specs.Matched.{Matched};
 
-use crate::plans::{BY_THE_BRANCH, ONE_SWITCH, STRAIGHT_ON, TRACKS, track, tracks};
+use crate::plans::{BY_THE_BRANCH, STRAIGHT_ON, TRACKS, track, tracks};
 use day::orders::{Answer, Order};
 use day::running::{DayEnd, run_day};
 use filed::filed::FiledPlan;
 use frame::frame::Frame;
 use frame::slip::Slip;
 use plan::parts::Position;
+use stations::ONE_SWITCH;
 use std::alloc::{AllocError, Global};
 
 // Days at two stations with one pool of slips. However far that comes before printing or memory fails, the slips of the pool

@@ -1,12 +1,6 @@
 use std::alloc::{AllocError, Global};
 
-// Three signals and one switch: signals 0, 1 and 2, switch 3 in point section 0.
-pub const ONE_SWITCH: [u8; 34] = [
-    3, 0, 255, 255, 12, 0, 69, 13, 0, 255, 255, 69, 14, 0, 255, 255, 69, 1, 0, 1, 0, 4, 0, 8, 0,
-    69, 0, 0, 0, 0, 1, 0, 1, 0,
-];
-
-// Its two rows: by the switch normal to signal 1, and by the switch reverse to signal 2.
+// The two rows of the one-switch station: by the switch normal to signal 1, and by the switch reverse to signal 2.
 pub const STRAIGHT_ON: [u8; 8] = [3, 0, 0, 0, 13, 0, 4, 0];
 
 pub const BY_THE_BRANCH: [u8; 8] = [3, 0, 0, 0, 14, 0, 8, 0];

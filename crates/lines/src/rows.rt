@@ -11,6 +11,9 @@ use plan::parts::Position;
 use row::entry::{component, lie};
 use row::shape::{entry_count, is_row, pairs};
 
+// The longest line: 512 components of three digits, each with its letter and a space or the line's end behind it.
+pub const LONGEST_LINE: usize = 2_560;
+
 // How long an entry is in print.
 fn shown_count(e: u16) -> usize
     ensures value { result ≡ length (shown e) }

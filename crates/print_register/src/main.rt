@@ -12,12 +12,10 @@ use input::read_file;
 use lines::closing::Closing;
 use output::Output;
 use register::registers::Register;
+use row::writing::LONGEST_ROW;
 
 // One turn more than a register has rows to hand out: the last one is always refused.
 const TURNS: usize = 65_536;
-
-// A row has at most 512 entries of two bytes each behind its count.
-const LONGEST_ROW: usize = 1_026;
 
 // Prints the rows of a good file, and the line that ends them.
 fn print_rows(file: &[u8], output: &mut Output) -> anyhow::Result<()> {

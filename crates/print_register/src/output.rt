@@ -1,13 +1,10 @@
 use anyhow::anyhow;
 use lines::closing::Closing;
-use lines::rows::write_row_line;
+use lines::rows::{LONGEST_LINE, write_row_line};
 use std::io::{BufWriter, Stdout, Write};
 
 // Lines are gathered, and written out once a block of this size is full.
 const BLOCK: usize = 65_536;
-
-// The longest line: 512 components of three digits, each with its letter and a space or the line's end behind it.
-const LONGEST_LINE: usize = 2_560;
 
 #[derive(Drop)]
 pub struct Output {

@@ -7,6 +7,9 @@ ghost use Rattle.row.specs.Written.{row_told, row_left};
 use crate::shape::are_entries;
 use fault::kinds::BoxFault;
 
+// A row has at most 512 entries of two bytes each behind its count.
+pub const LONGEST_ROW: usize = 1_026;
+
 // Writes a number as two bytes, the low byte first.
 fn put_word(space: &mut [u8], at: usize, n: u16)
     requires { at + 2 ≤ length space.old }
