@@ -25,6 +25,21 @@ def lines(pattern):
     return found
 
 
+def index_loops():
+    """Loops over a range whose variable is an index (`i`, or in brackets below), and loops that count by `while`."""
+    found = []
+    for f, text in files.items():
+        rows = text.split("\n")
+        for n, line in enumerate(rows):
+            m = re.match(r"\s*for (\w+) in .*\.\.", line)
+            body = "\n".join(rows[n + 1 : n + 8])
+            if m and (m.group(1) in "ijk" or re.search(r"\[[^\]\n]*\b" + m.group(1) + r"\b[^\[\n]*\]", body)):
+                found.append((f, n + 1, line.strip()))
+            if re.match(r"\s*while (?!let)", line):
+                found.append((f, n + 1, line.strip()))
+    return found
+
+
 def functions():
     head = re.compile(r"^ *(?:pub(?:\(crate\))? )?(?:extern \"C\" )?fn (\w+)(?:<[^(]*>)?\(((?:[^()]|\([^()]*\))*)\)(?: -> ([^\n{]+))?", re.M)
     for f, text in files.items():
@@ -61,11 +76,12 @@ def named(pattern):
 points = [
     ("1. numbers for kinds: `% 4` of an entry or a code", lines(r"% 4\b")),
     ("1. a fault that is told as an Option", lines(r"-> Option<\w*Fault>")),
-    ("1. a bool beside a value that the call changes", [(f, n, name) for f, n, name, a, r in functions() if r == "bool" and "&mut" in a and "rt:" not in a]),
-    ("1. a number that stands for none", lines(r"\bNO_ENTRY\b|\bBLANK\b")),
+    ("1. a bool beside a value that the call changes", [(f, n, name) for f, n, name, a, r in functions() if r == "bool" and "&mut" in a and not name.startswith("is_")]),
+    ("1. a number that stands for none", lines(r"const (NO_ENTRY|BLANK)\b")),
     ("1. numbers for refusals and layers in a struct", lines(r"^\s*pub (number|layer): u\d")),
     ("2. functions and constants of one name in two crates", shared_names()),
-    ("3. loops over numbers, and `while`", lines(r"^\s*(for \w+ in .*\d*\.\.|while )")),
+    ("3. loops that count an index", index_loops()),
+    ("3. searches and sums as loops", lines(r"^\s*return (true|Some\((i|entry|component)\));|\+= 1;$|\+= .*count")),
     ("4. conversion, equality and printing by hand", named(r"tell|is_same|leads_to|direction|direction_at|is_letter|layer_number|side_number|port_code|port_of|accepted|refused|side_name|\w+_words|is_told|print_fault|is_kind|is_blank")),
     ("4. the parts of what a fault tells taken for print", lines(r"let (number|place) = told\.")),
     ("5. a clause that stands in three functions or more", repeated_clauses()),

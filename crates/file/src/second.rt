@@ -104,7 +104,7 @@ impl FirstRead<'_> {
         Ok(())
     }
 
-    // How many switches belong to a point section.
+    // How many switches belong to a point section. A loop: of `filter` and `count` the proof did not close.
     fn members(&self, section: u16) -> u16
         ensures { result ≡ members (layout_of self.now.file.bytes.now) section }
     {

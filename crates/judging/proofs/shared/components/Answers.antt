@@ -1,7 +1,5 @@
 use Rattle.std.proofs.Common.{ap, ◌∙◌, arith}
-use Rattle.std.proofs.lemmas.List.{take_all}
 use Rattle.sets.specs.Members.{joined}
-use Rattle.route.specs.Components.{on}
 use Rattle.judging.proofs.Gathered.{gathers_none, gathers_more}
 use Rattle.judging.proofs.shared.components.Goals as goal
 
@@ -13,7 +11,3 @@ loop-e-preserved c =
     let i = c.loop-e.e-index in
     let small = c.as_slice-all.ensures.small i (omega arith) in
     gathers_more c.loop-e.set c.insert.new.self c.as_slice-all.result.now i c.loop-e.invariant (omega arith) (omega arith) (λ k. c.insert.ensures k ∙ ap (λ n. joined c.loop-e.set n k) c.component.ensures)
-
-pub returns : goal.returns
-returns c = λ k.
-    c.loop-e.invariant k ∙ ap (on k) (take_all c.loop-e.e-index c.as_slice-all.result.now (omega arith) ∙ c.as_slice-all.ensures.value)

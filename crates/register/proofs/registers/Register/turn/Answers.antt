@@ -1,27 +1,17 @@
 use Rattle.std.proofs.Common.{◌≡◌, ℕ, ◌+◌, ◌<◌, true, false, length, Err, sym, refl, ap, ◌∙◌, arith}
 use Rattle.std.proofs.lemmas.List.{length_push}
 use Rattle.std.proofs.lemmas.Result.{err_from_is_err_and}
-use Rattle.std.proofs.lemmas.Bool.{eqb-true, eqb-false}
+use Rattle.std.proofs.lemmas.Bool.{eqb-false}
 use Rattle.row.specs.Written.{row_told, row_left}
 use Rattle.search.specs.View.{path_of}
 use Rattle.register.proofs.Handing.{first_more}
 use Rattle.register.proofs.Shapes.{route_entries}
-use Rattle.register.proofs.States.{stands_last, stands_next, stands_more, turned_short}
+use Rattle.register.proofs.States.{stands_next, stands_more, turned_short}
 use Rattle.register.proofs.Writing.{not_written, not_touched, written}
 use Rattle.register.proofs.registers.Register.turn.Goals as goal
 
 true_false : true ≡ false → ⊥
 true_false h = let z : ◌≡◌ {A = ℕ} 0 1 = cc in omega arith
-
-pub returns-then-is_empty : goal.returns-then-is_empty
-returns-then-is_empty g c =
-    let q = path_of c.args.self.now.next in
-    let none : length q ≡ 0 = ap length (sym c.entries.ensures.value) ∙ eqb-true _ 0 (sym c.is_empty.ensures ∙ c.if-is_empty.true) in
-    record {
-      plan = refl;
-      refused = λ h. (refl, refl);
-      history = λ rows kept. stands_last _ rows q kept.stands none;
-    }
 
 pub returns-in_err-length : goal.returns-in_err-length
 returns-in_err-length g c =

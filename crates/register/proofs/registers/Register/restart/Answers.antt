@@ -1,6 +1,0 @@
-use Rattle.std.proofs.Common.{refl}
-use Rattle.register.proofs.Handing.{first_none}
-use Rattle.register.proofs.registers.Register.restart.Goals as goal
-
-pub returns : goal.returns
-returns g c = record { plan = refl; history = record { first = first_none _; count = refl; stands = c.first_route-self.ensures } }
