@@ -7,7 +7,8 @@ use frame::slip::Slip;
 use plan::interface::Plan;
 use signal_box::signal_box::SignalBox;
 
-// Performs one order.
+// Performs one order. Orders are written down before the day, so they are data and no closures. That the pool has room for
+// one slip more is a condition of three calls here and no invariant of a pool, which is the caller's Vec.
 pub(crate) fn perform<P: Plan>(
     station: &mut SignalBox<P>,
     pool: &mut Vec<Slip>,

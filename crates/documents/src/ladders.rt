@@ -9,7 +9,7 @@ const BLANK: u16 = 65_535;
 const TURNS: usize = 65_536;
 
 // A row of 16 pairs: its count, and the entries of two signals and 32 switches.
-const LONGEST_ROW: usize = 70;
+const LADDER_ROW: usize = 70;
 
 fn push_number(file: &mut Vec<u8>, n: u16) -> anyhow::Result<()> {
     file.extend_from_slice(&n.to_le_bytes())?;
@@ -80,7 +80,7 @@ fn print_rest(
 // Two registers to their ends: one that is drained, and one whose rows are spent, which was restarted on the way. A turn
 // after a refused one is refused again.
 pub fn print_ladders(rt: &HostRuntime) -> anyhow::Result<()> {
-    let mut space = [0; LONGEST_ROW];
+    let mut space = [0; LADDER_ROW];
     let fifteen = ladder(rt, 15)?;
     let mut register = Register::new(FiledPlan::take(fifteen.as_slice()));
     print_rest(rt, &mut register, &mut space)?;

@@ -14,7 +14,8 @@ mod throwing;
 const MOST_OPEN: usize = 8;
 
 // Switches lie normal but for those of a set; the open routes stand in the order of their opening. A frame knows no plan:
-// each call is lent the plan that it is about.
+// each call is lent the plan that it is about. Each says anew that a refusal changes nothing: that is about the frame before
+// and after a call, which no field or invariant can hold.
 #[derive(Drop)]
 pub struct Frame {
     reversed: ComponentSet,

@@ -54,6 +54,7 @@ impl ComponentSet {
     pub fn common(&self, other: &ComponentSet) -> u16
         ensures { result ≡ in_both self.now other.now }
     {
+        // a loop: of `map` and `sum` the proof did not close, since it wants the bound of each word
         let mut count = 0;
         for (word, others) in self.words.iter().zip(&other.words) {
             count += (word & others).count_ones() as u16;
