@@ -59,6 +59,7 @@ fn read_records(bytes: &[u8], from: usize, count: u16, sort: Sort) -> Result<(),
     Ok(())
 }
 
+// The five parameters are one section's: each caller has others, so a struct would be built for a single call.
 // A section whose count stands at `at`, after `before` of those that it is counted with.
 fn read_section(
     bytes: &[u8],

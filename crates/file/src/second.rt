@@ -11,6 +11,7 @@ use fault::kinds::PlanFault;
 use numbers::number_at;
 use plan::parts::{Port, Side};
 
+// As the sheet's, over kinds that the file tells: what both share is a comparison of two directions, and that is `faces`.
 fn is_opposed(file: &Contents, port: Port, other: Port) -> bool
     ensures { result ≡ opposed (layout_of file.now.bytes.now) port other }
 {

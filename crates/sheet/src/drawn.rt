@@ -38,6 +38,7 @@ impl Drawn<'_> {
             .is_some_and(|record| record.kind.has_side(port.side))
     }
 
+    // As the file's, over kinds that the records tell: what both share is `faces`.
     pub(crate) fn is_opposed(&self, port: Port, other: Port) -> bool
         ensures { result ≡ opposed (drawn self.now.records.now) port other }
     {

@@ -9,6 +9,7 @@ use crate::watching::known;
 use fault::kinds::BoxFault;
 use plan::interface::Plan;
 
+// Two calls, as two things happen on the line; what they share is `known`, and what differs is one call each.
 impl Frame {
     // A train is in the section.
     pub fn occupy<P: Plan>(&mut self, plan: &P, section: u16) -> Result<(), BoxFault>
