@@ -1,8 +1,10 @@
-ghost use Rattle.std.specs.Prelude.{◌≡◌};
+ghost use Rattle.std.specs.Prelude.{◌≡◌, Ok, Err, MatchResult};
 ghost use Rattle.filed.specs.Taken.{taken, Takes};
 ghost use Rattle.file.specs.Contents.{layout_of};
+ghost use Rattle.file.specs.Readings.{look};
 
 use crate::filed::FiledPlan;
+use fault::kinds::PlanFault;
 use file::look::look_over;
 use file::reading::contents;
 
@@ -15,6 +17,18 @@ fn accepted<'a>(bytes: &'a [u8]) -> &'a [u8]
     match look_over(bytes) {
         Ok(()) => bytes,
         Err(_) => &EMPTY,
+    }
+}
+
+impl<'a> TryFrom<&'a [u8]> for FiledPlan<'a> {
+    type Error = PlanFault;
+
+    ghost try_from_gives = { λ bytes r. MatchResult r (λ plan. (look bytes.now ≡ Ok tt) × (plan.contents.bytes.now ≡ bytes.now)) (λ e. look bytes.now ≡ Err e) };
+
+    fn try_from(bytes: &'a [u8]) -> Result<FiledPlan<'a>, PlanFault> {
+        look_over(bytes)?;
+        let contents = contents(bytes);
+        Ok(FiledPlan { contents })
     }
 }
 

@@ -6,7 +6,6 @@ mod output;
 
 use anyhow::anyhow;
 use fault::kinds::{BoxFault, Told};
-use file::look::look_over;
 use filed::filed::FiledPlan;
 use input::read_file;
 use lines::closing::Closing;
@@ -17,9 +16,9 @@ use row::writing::LONGEST_ROW;
 // One turn more than a register has rows to hand out: the last one is always refused.
 const TURNS: usize = 65_536;
 
-// Prints the rows of a good file, and the line that ends them.
-fn print_rows(file: &[u8], output: &mut Output) -> anyhow::Result<()> {
-    let mut register = Register::new(FiledPlan::take(file));
+// Prints the rows of a plan, and the line that ends them.
+fn print_rows(plan: FiledPlan<'_>, output: &mut Output) -> anyhow::Result<()> {
+    let mut register = Register::new(plan);
     let mut space = [0; LONGEST_ROW];
     for count in 0..TURNS {
         let length = match register.turn(&mut space) {
@@ -42,8 +41,8 @@ fn run(rt: &HostRuntime) -> anyhow::Result<()> {
     let input = read_file(rt)?;
     let file = input.as_slice();
     let mut output = Output::new(rt)?;
-    match look_over(file) {
-        Ok(()) => print_rows(file, &mut output),
+    match FiledPlan::try_from(file) {
+        Ok(plan) => print_rows(plan, &mut output),
         Err(fault) => {
             let told = Told::from(fault);
             output.close(Closing::Refused(told.number, told.place))
