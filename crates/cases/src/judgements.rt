@@ -28,8 +28,8 @@ const ONE_SWITCH_ROWS: [(&str, &[u8]); 21] = [
     ("a count that is too great", &[3, 0, 0, 0, 13, 0]),
 ];
 
-// Rows of the fourteen-component station: its routes, and each with something changed.
-const FOURTEEN_ROWS: [(&str, &[u8]); 26] = [
+// The twelve routes of the fourteen-component station.
+pub const ROUTES: [(&str, &[u8]); 12] = [
     ("route 1", &[4, 0, 8, 0, 36, 0, 41, 0, 32, 0]),
     ("route 2", &[4, 0, 4, 0, 53, 0, 16, 0, 20, 0]),
     ("route 3", &[4, 0, 4, 0, 54, 0, 24, 0, 28, 0]),
@@ -54,6 +54,10 @@ const FOURTEEN_ROWS: [(&str, &[u8]); 26] = [
         "route 12",
         &[8, 0, 4, 0, 54, 0, 24, 0, 28, 0, 50, 0, 46, 0, 42, 0, 36, 0],
     ),
+];
+
+// Each is one of those with something changed.
+const CHANGES: [(&str, &[u8]); 14] = [
     (
         "route 1 with w1 reverse",
         &[4, 0, 8, 0, 36, 0, 42, 0, 32, 0],
@@ -114,5 +118,6 @@ fn print_rows(rt: &HostRuntime, file: &[u8], rows: &[(&str, &[u8])]) -> anyhow::
 
 pub fn print_judgements(rt: &HostRuntime) -> anyhow::Result<()> {
     print_rows(rt, &ONE_SWITCH, &ONE_SWITCH_ROWS)?;
-    print_rows(rt, &FOURTEEN, &FOURTEEN_ROWS)
+    print_rows(rt, &FOURTEEN, &ROUTES)?;
+    print_rows(rt, &FOURTEEN, &CHANGES)
 }

@@ -8,7 +8,8 @@ use plan::interface::Plan;
 use signal_box::signal_box::SignalBox;
 
 // Performs one order. Orders are written down before the day, so they are data and no closures. That the pool has room for
-// one slip more is a condition of three calls here and no invariant of a pool, which is the caller's Vec.
+// one slip more is a condition of three calls here and no invariant of a pool, which is the caller's Vec; the box is the
+// day's own, so the two are no struct.
 pub(crate) fn perform<P: Plan>(
     station: &mut SignalBox<P>,
     pool: &mut Vec<Slip>,

@@ -1,12 +1,13 @@
 use anyhow::anyhow;
 use fault::kinds::Told;
 use filed::filed::FiledPlan;
-use register::registers::Register;
+use register::registers::{MOST_ROWS, Register};
 
+// A blank as files store it; in the library it is a None.
 const BLANK: u16 = 65_535;
 
 // One turn more than a register has rows to hand out.
-const TURNS: usize = 65_536;
+const TURNS: usize = MOST_ROWS as usize + 1;
 
 // A row of 16 pairs: its count, and the entries of two signals and 32 switches.
 const LADDER_ROW: usize = 70;

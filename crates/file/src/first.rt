@@ -52,15 +52,15 @@ fn read_records(bytes: &[u8], from: usize, count: u16, sort: Sort) -> Result<(),
     requires { from < 2 ^ 30 }
     ensures { result ≡ first_failing (each count (nth_record bytes.now from sort)) }
 {
-    // a record is found by its number, since it may be cut off where a slice would end
+    // by number, since a record may be cut off where a slice of records would end
     for i in 0..usize::from(count) {
         read_record(bytes, from + sort.size() * i, sort)?;
     }
     Ok(())
 }
 
-// The five parameters are one section's: each caller has others, so a struct would be built for a single call.
-// A section whose count stands at `at`, after `before` of those that it is counted with.
+// A section whose count stands at `at`, after `before` of those that it is counted with. The five parameters are one
+// section's, but each caller has others: a struct would be built for a single call.
 fn read_section(
     bytes: &[u8],
     at: usize,

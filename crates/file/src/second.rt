@@ -11,13 +11,10 @@ use fault::kinds::PlanFault;
 use numbers::number_at;
 use plan::parts::{Port, Side};
 
-// As the sheet's, over kinds that the file tells: what both share is a comparison of two directions, and that is `faces`.
 fn is_opposed(file: &Contents, port: Port, other: Port) -> bool
     ensures { result ≡ opposed (layout_of file.now.bytes.now) port other }
 {
-    let here = file.kind(port.component).faces(port.side);
-    let there = file.kind(other.component).faces(other.side);
-    here != there && port.component != other.component
+    port.is_opposed(file.kind(port.component), other, file.kind(other.component))
 }
 
 // The field of a port, where it names another.
@@ -94,7 +91,6 @@ fn belongs(file: &Contents, section: u16, component: u16) -> bool
     file.kind(component).is_switch() && file.section(component) == section
 }
 
-// The loops are over the numbers of components and point sections: the records of a file are no slice of items.
 impl FirstRead<'_> {
     fn read_components(&self) -> Result<(), PlanFault>
         ensures { result ≡ first_failing (component_fields self.now.file.bytes.now) }

@@ -3,7 +3,7 @@ ghost use Rattle.row.specs.View.{entries};
 
 use row::entries::Entries;
 
-// A route that stands open, under the serial of its slip.
+// A route that stands open, under the serial of its slip; or, by default, none.
 #[derive(Clone, Copy)]
 pub struct OpenRoute {
     pub(crate) serial: u16,

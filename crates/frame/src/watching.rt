@@ -1,6 +1,7 @@
-ghost use Rattle.std.specs.Prelude.{◌≡◌, ◌+◌, ◌<◌, MatchBool, MatchResult, OnOk, ◌&&◌, nat_lt};
+ghost use Rattle.std.specs.Prelude.{◌≡◌, ◌+◌, ◌<◌, MatchResult, OnOk, ◌&&◌, nat_lt};
 ghost use Rattle.fault.specs.declared.kinds.BoxFault.TheVariants.{NoSuchSection};
 ghost use Rattle.plan.specs.Layout.{told, is_switch};
+ghost use Rattle.route.specs.Tells.{Tells};
 ghost use Rattle.frame.specs.Sections.{Watches, IsSection, WatchedBy};
 
 use crate::sections::FIRST_POINT;
@@ -27,14 +28,14 @@ pub(crate) fn section_of<P: Plan>(plan: &P, component: u16) -> Option<u16>
 }
 
 fn watches<P: Plan>(plan: &P, section: u16, component: u16) -> bool
-    ensures { MatchBool result (Watches (P.layout plan.now) section component) (Watches (P.layout plan.now) section component → ⊥) }
+    ensures { Tells result (Watches (P.layout plan.now) section component) }
 {
     section_of(plan, component) == Some(section)
 }
 
 // Whether the number is that of a section of the plan.
 fn is_section<P: Plan>(plan: &P, section: u16) -> bool
-    ensures { MatchBool result (IsSection (P.layout plan.now) section) (IsSection (P.layout plan.now) section → ⊥) }
+    ensures { Tells result (IsSection (P.layout plan.now) section) }
 {
     (0..plan.count()).any(|component| watches(plan, section, component))
 }

@@ -1,4 +1,5 @@
-ghost use Rattle.std.specs.Prelude.{◌≡◌, ℕ, ◌<◌, ◌≤◌, length, MatchBool};
+ghost use Rattle.std.specs.Prelude.{◌≡◌, ℕ, ◌<◌, ◌≤◌, length};
+ghost use Rattle.route.specs.Tells.{Tells};
 ghost use Rattle.route.specs.Growth.{Begun, May};
 ghost use Rattle.route.specs.Paths.{Starts, Follows, heading};
 ghost use Rattle.judging.specs.Judged.{StartAt, Walked};
@@ -11,7 +12,7 @@ use sets::set::ComponentSet;
 
 // Whether the entry `e` comes next after `last`, travelling `way`.
 fn follows<P: Plan>(plan: &P, way: Direction, last: u16, e: u16) -> bool
-    ensures { MatchBool result (Follows (P.layout plan.now) way last e) (Follows (P.layout plan.now) way last e → ⊥) }
+    ensures { Tells result (Follows (P.layout plan.now) way last e) }
 {
     let Some(range) = onward(plan, way, last) else {
         return false;
@@ -23,7 +24,7 @@ fn follows<P: Plan>(plan: &P, way: Direction, last: u16, e: u16) -> bool
 fn start<P: Plan>(plan: &P, e: u16) -> Option<Direction>
     ensures { StartAt (P.layout plan.now) e result }
 {
-    // what leaves 3 says no position either, and is no start
+    // by the number: what leaves 3, divided by 4, has no position either, and is no start
     if e % 4 != 0 {
         return None;
     }

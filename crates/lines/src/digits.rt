@@ -1,7 +1,8 @@
 ghost use Rattle.std.specs.Prelude.{◌≡◌, ◌≤◌, length};
 ghost use Rattle.lines.specs.Decimal.{decimal};
 
-// How many digits the number has; std has no logarithm to the base 10.
+// How many digits the number has, as `decimal` has them. `ilog10` speaks of powers of ten, so it would take a lemma more to
+// say the same.
 #[tactic(auto, using(crate::proofs::Decimals::decimal_digit, crate::proofs::Decimals::length_step))]
 pub(crate) fn digit_count(n: usize) -> usize
     ensures value { result ≡ length (decimal n) }

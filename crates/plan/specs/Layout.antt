@@ -85,9 +85,12 @@ same_direction East West = false
 same_direction West East = false
 same_direction West West = true
 
--- the two ports face opposite ways and belong to different components
+-- the two ports, of components of such kinds, face opposite ways and belong to different components
+abbrev pub ports_opposed : Kind → Port → Kind → Port → Bool
+ports_opposed k p k' q = not (same_direction (side_faces k p.side) (side_faces k' q.side)) && not (p.component == q.component)
+
 abbrev pub opposed : Layout → Port → Port → Bool
-opposed l p q = not (same_direction (faces l p) (faces l q)) && not (p.component == q.component)
+opposed l p q = ports_opposed (l.kind p.component) p (l.kind q.component) q
 
 abbrev pub same_side : Side → Side → Bool
 same_side WestSide WestSide = true

@@ -16,12 +16,12 @@ pub enum Kind {
     Straight,
 }
 
-// The ports of a component: the one that faces west, the one that faces east, and a switch's branch.
+// The ports of a component: the one that faces west, the one that faces east, and a switch's branch. Files number them.
 #[derive(Clone, Copy, PartialEq, Eq, Debug)]
 pub enum Side {
-    West,
-    East,
-    Branch,
+    West = 0,
+    East = 1,
+    Branch = 2,
 }
 
 #[derive(Clone, Copy, PartialEq, Eq, Debug)]

@@ -1,7 +1,7 @@
 // Which ports a component has, and which way they face.
 
 ghost use Rattle.std.specs.Prelude.{◌≡◌};
-ghost use Rattle.plan.specs.Layout.{is_switch, has_side, side_faces, port};
+ghost use Rattle.plan.specs.Layout.{is_switch, has_side, side_faces, port, ports_opposed};
 
 use crate::parts::{Direction, Kind, Port, Side};
 
@@ -35,6 +35,15 @@ impl Kind {
             (Side::Branch, Kind::Signal(direction) | Kind::Switch(direction)) => direction,
             (Side::Branch, Kind::Straight) => Direction::East,
         }
+    }
+}
+
+impl Port {
+    // Whether the port and another, of components of such kinds, face opposite ways and belong to different components.
+    pub fn is_opposed(self, kind: Kind, other: Port, other_kind: Kind) -> bool
+        ensures { result ≡ ports_opposed kind self other_kind other }
+    {
+        kind.faces(self.side) != other_kind.faces(other.side) && self.component != other.component
     }
 }
 

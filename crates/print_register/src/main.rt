@@ -10,11 +10,11 @@ use filed::filed::FiledPlan;
 use input::read_file;
 use lines::closing::Closing;
 use output::Output;
-use register::registers::Register;
+use register::registers::{MOST_ROWS, Register};
 use row::writing::LONGEST_ROW;
 
 // One turn more than a register has rows to hand out: the last one is always refused.
-const TURNS: usize = 65_536;
+const TURNS: usize = MOST_ROWS as usize + 1;
 
 // Prints the rows of a plan, and the line that ends them.
 fn print_rows(plan: FiledPlan<'_>, output: &mut Output) -> anyhow::Result<()> {

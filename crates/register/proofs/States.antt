@@ -40,10 +40,6 @@ pub stands_next : (l : Layout) (rows : List (List ℕ)) (q : List ℕ) → Stand
 stands_next l rows q s n =
     ⊎_elim (λ (h : (q ≡ []) × AllOut l rows). absurd (n (ap length h.0))) (λ h. h.1) s
 
-pub stands_last : (l : Layout) (rows : List (List ℕ)) (q : List ℕ) → Stands l rows q → length q ≡ 0 → AllOut l rows
-stands_last l rows q s n =
-    ⊎_elim (λ h. h.1) (λ (h : (0 < length q) × NextRoute l rows q). let k = h.0 in absurd (omega arith)) s
-
 -- a turn that is refused for want of space
 pub turned_short : {P : Type 0} (l : Layout) (rows : List (List ℕ)) (space space' : List ℕ) (g : Register P) (e : BoxFault) (row : List ℕ) → e ≡ ShortSpace → NextRoute l rows row → length rows < 65535 → length space < length (bytes_of row) → Turned l rows space space' g (Err e)
 turned_short l rows space space' g e row h next few short =

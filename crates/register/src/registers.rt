@@ -1,4 +1,4 @@
-ghost use Rattle.std.specs.Prelude.{◌≡◌, ℕ, false, List, [], is_ok};
+ghost use Rattle.std.specs.Prelude.{◌≡◌, ℕ, List, [], OnErr};
 ghost use Rattle.route.specs.Order.{StrictAndTotal};
 ghost use Rattle.register.specs.Handed.{Handed, Stands, Turned};
 ghost use Rattle.search.specs.View.{path_of};
@@ -10,9 +10,10 @@ use search::position::Position;
 use search::routes::next_route;
 
 // How many rows a register hands out before it is restarted.
-const MOST_ROWS: u16 = 65_535;
+pub const MOST_ROWS: u16 = 65_535;
 
-// The register looks ahead: it holds the next route to hand out, so a refused turn has nothing to undo.
+// The register looks ahead: it holds the next route to hand out, so a refused turn has nothing to undo. An empty position
+// is none: the search leaves it so, and an Option around it would have two ways to say it.
 #[derive(Drop)]
 pub struct Register<P> {
     plan: P,
@@ -53,7 +54,7 @@ impl<P: Plan> Register<P> {
     // Writes the next route's row at the front of the space and answers its length in bytes.
     pub fn turn(&mut self, space: &mut [u8]) -> Result<usize, BoxFault>
         ensures plan { self.new.plan ≡ self.old.plan }
-        ensures refused { is_ok result ≡ false → (self.new ≡ self.old) × (space.new ≡ space.old) }
+        ensures refused { OnErr result ((self.new ≡ self.old) × (space.new ≡ space.old)) }
         ensures history { (rows : List (List ℕ)) → Handed (P.layout self.old.plan) rows self.old → Turned (P.layout self.old.plan) rows space.old space.new self.new result }
     {
         if self.next.entries().is_empty() {

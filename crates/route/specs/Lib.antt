@@ -3,3 +3,4 @@ pub mod Paths
 pub mod Growth
 pub mod Steps
 pub mod Components
+pub mod Tells

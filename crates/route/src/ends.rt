@@ -1,4 +1,4 @@
-ghost use Rattle.std.specs.Prelude.{MatchBool};
+ghost use Rattle.route.specs.Tells.{Tells};
 ghost use Rattle.route.specs.Growth.{Begun};
 ghost use Rattle.route.specs.Paths.{Ends};
 
@@ -8,7 +8,7 @@ use row::entry::component;
 
 // Whether the path ends as a route does.
 pub fn is_route<P: Plan>(plan: &P, at: &[u16]) -> bool
-    ensures { Begun (P.layout plan.now) at.now → MatchBool result (Ends (P.layout plan.now) at.now) (Ends (P.layout plan.now) at.now → ⊥) }
+    ensures { Begun (P.layout plan.now) at.now → Tells result (Ends (P.layout plan.now) at.now) }
 {
     let [first, .., last] = at else {
         return false;

@@ -3,7 +3,7 @@ ghost use Rattle.std.specs.Prelude.{◌≡◌, ℕ, ◌<◌, ◌≤◌, length, 
 mod calls;
 
 // A list of at most 512 entries, each below 2,048: the first `len` cells hold it. An array with a length, since the
-// library allocates nothing and lists are copied by value, which an `ArrayVec` is not.
+// library allocates nothing, and callers may copy a list, which an `ArrayVec` does not allow.
 #[derive(Clone, Copy)]
 pub struct Entries {
     cells: [u16; 512],

@@ -4,7 +4,8 @@ ghost use Rattle.row.specs.Row.{entry_ok, is_entries, is_row, numbers_from};
 
 use numbers::number_at;
 
-// Whether a row can hold the entry: a component below 512, and how a switch lies. `lie` has no word for what leaves 3.
+// Whether a row can hold the entry: a component below 512, and how a switch lies. By the number, since
+// `lie` has no word for what leaves 3, divided by 4.
 fn is_entry(e: u16) -> bool
     ensures { result ≡ entry_ok e }
 {
@@ -63,6 +64,7 @@ pub fn is_row(bytes: &[u8]) -> bool
     if bytes.len() != 2 + 2 * count || count < 2 || count > 512 {
         return false;
     }
+    // no early return, as above
     let mut good = true;
     for pair in pairs(bytes) {
         good &= is_entry(u16::from_le_bytes(*pair));

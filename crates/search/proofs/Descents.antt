@@ -4,6 +4,7 @@ use Rattle.plan.specs.Layout.{Layout, Lawful}
 use Rattle.route.specs.Growth.{Begun, Next}
 use Rattle.search.specs.declared.position.Position.{Position}
 use Rattle.search.specs.View.{path_of, Pushed}
+use Rattle.std.specs.Bool.{then_some}
 use Rattle.search.specs.Found.{Least, Descended}
 use Rattle.search.proofs.Nexts.{least_may, least_full, least_none}
 
@@ -12,9 +13,9 @@ module _ (l : Layout) (w : Lawful l) (f : ℕ) (p : Position) (s : List ℕ) (sh
   found : (o : Option ℕ) → (Begun l s → Least (Next l s) f o) → Begun l (path_of p) → Least (Next l (path_of p)) f o
   found o h = let F : List ℕ → Type 0 = λ q. Begun l q → Least (Next l q) f o in subst F shown h
 
-  pub stayed : (Begun l s → Least (Next l s) f None) → Descended l f p p false
+  pub stayed : (Begun l s → Least (Next l s) f None) → Descended l f p p None
   stayed h = (refl, λ g. least_none l w (path_of p) f (found None h g))
 
-  pub descended : (q : Position) (e : ℕ) (r : Bool) → (Begun l s → Least (Next l s) f (Some e)) → f ≤ e → Pushed p e q r → Descended l f p q r
-  descended q e true h k u = (e, u.0, k, λ g. least_may l w (path_of p) f e (found (Some e) h g) u.1)
+  pub descended : (q : Position) (e : ℕ) (r : Bool) → (Begun l s → Least (Next l s) f (Some e)) → f ≤ e → Pushed p e q r → Descended l f p q (then_some r e)
+  descended q e true h k u = (u.0, k, λ g. least_may l w (path_of p) f e (found (Some e) h g) u.1)
   descended q e false h k u = (u.0, λ g. least_full l w (path_of p) f e (found (Some e) h g) u.1 g)

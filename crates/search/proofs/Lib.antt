@@ -9,3 +9,4 @@ pub mod Retreats
 pub mod Turns
 pub mod Floods
 pub mod Dead
+mod Signals

@@ -17,21 +17,21 @@ Keeps l p at f = (f ≤ 2048) × (Begun l p → Ahead l p (path_of at) f)
 
 module _ (l : Layout) (p : List ℕ) (at : Position) (f : ℕ) (kept : Keeps l p at f) where
   -- one entry further down; `s` is what a slice showed of the path
-  module _ (at' : Position) (down : Descended l f at at' true) (s : List ℕ) (shown : s ≡ path_of at') where
-    same : path_of at ++ down.0 ∷ [] ≡ s
-    same = sym (shown ∙ down.1)
+  module _ (at' : Position) (d : ℕ) (down : Descended l f at at' (Some d)) (s : List ℕ) (shown : s ≡ path_of at') where
+    same : path_of at ++ d ∷ [] ≡ s
+    same = sym (shown ∙ down.0)
 
-    least : Begun l p → Least (May l (path_of at)) f (Some down.0)
-    least g = down.3 (kept.1 g).begun
+    least : Begun l p → Least (May l (path_of at)) f (Some d)
+    least g = down.2 (kept.1 g).begun
 
     begun_here : Begun l p → Begun l s
-    begun_here g = let F : List ℕ → Type 0 = λ x. Begun l x in subst F same (begun_more l p (path_of at) f down.0 (kept.1 g) (least g))
+    begun_here g = let F : List ℕ → Type 0 = λ x. Begun l x in subst F same (begun_more l p (path_of at) f d (kept.1 g) (least g))
 
     pub turn_hit : (Begun l s → Ends l s) → Begun l p → Found l p (path_of at') true
     turn_hit ends g =
         let E : List ℕ → Type 0 = λ x. Ends l x in
         let F : List ℕ → Type 0 = λ x. Found l p x true in
-        subst F (sym down.1) (ahead_hit l p (path_of at) f down.0 (kept.1 g) (least g) (subst E (sym same) (ends (begun_here g))))
+        subst F (sym down.0) (ahead_hit l p (path_of at) f d (kept.1 g) (least g) (subst E (sym same) (ends (begun_here g))))
 
     -- from the entry `n` on, below which no route goes on
     pub turn_down : (Begun l s → Ends l s → ⊥) → (n : ℕ) → n ≤ 2048 → BarrenBelow l (path_of at') n → Keeps l p at' n
@@ -41,15 +41,15 @@ module _ (l : Layout) (p : List ℕ) (at : Position) (f : ℕ) (kept : Keeps l p
           let E : List ℕ → Type 0 = λ x. Ends l x in
           let F : List ℕ → Type 0 = λ x. Ahead l p x 0 in
           ahead_below l p (path_of at') n
-          (subst F (sym down.1) (ahead_down l p (path_of at) f down.0 (kept.1 g) (least g) (λ k. ends (begun_here g) (subst E same k))))
+          (subst F (sym down.0) (ahead_down l p (path_of at) f d (kept.1 g) (least g) (λ k. ends (begun_here g) (subst E same k))))
           none,
     )
 
     pub turn_down_less : (g : ℕ) → left (path_of at') g < left (path_of at) f
-    turn_down_less g = falls_down at at' f down.0 g kept.0 down.2 down.1
+    turn_down_less g = falls_down at at' f d g kept.0 down.1 down.0
 
   -- nothing further down, and back
-  module _ (stay back : Position) (none : Descended l f at stay false) where
+  module _ (stay back : Position) (none : Descended l f at stay None) where
     still : path_of stay ≡ path_of at
     still = ap path_of none.0
 

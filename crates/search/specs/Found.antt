@@ -18,7 +18,6 @@ Least P f None = (e : ℕ) → P e → e < f
 Least P f (Some e) = P e × (f ≤ e) × ((e' : ℕ) → P e' → f ≤ e' → e ≤ e')
 
 -- one entry more on the path, the least from `f` on that may stand there; or there is none, and nothing moved
-abbrev pub Descended : Layout → ℕ → Position → Position → Bool → Type 0
-Descended l f p q true =
-    (e : ℕ) × (path_of q ≡ path_of p ++ e ∷ []) × (f ≤ e) × (Begun l (path_of p) → Least (May l (path_of p)) f (Some e))
-Descended l f p q false = (q ≡ p) × (Begun l (path_of p) → Least (May l (path_of p)) f None)
+abbrev pub Descended : Layout → ℕ → Position → Position → Option ℕ → Type 0
+Descended l f p q (Some e) = (path_of q ≡ path_of p ++ e ∷ []) × (f ≤ e) × (Begun l (path_of p) → Least (May l (path_of p)) f (Some e))
+Descended l f p q None = (q ≡ p) × (Begun l (path_of p) → Least (May l (path_of p)) f None)

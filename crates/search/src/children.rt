@@ -13,14 +13,11 @@ use row::entry::component;
 fn next_start<P: Plan>(plan: &P, from: u16) -> Option<u16>
     ensures { Least (Starts (P.layout plan.now)) from result }
 {
-    // a plan tells of components by number, and is no slice to iterate over
-    for component in 0..plan.count() {
-        let entry = 4 * component;
-        if from <= entry && signal(plan, component).is_some() {
-            return Some(entry);
-        }
-    }
-    None
+    let mut components = from.div_ceil(4)..plan.count();
+    let Some(component) = components.find(|c| signal(plan, *c).is_some()) else {
+        return None;
+    };
+    Some(4 * component)
 }
 
 // The first entry from `from` on that follows `last`.
@@ -46,13 +43,12 @@ fn next_entry<P: Plan>(plan: &P, at: &[u16], from: u16) -> Option<u16>
     next_after(plan, way, *last, from)
 }
 
-// Goes down to the least entry from `from` on that may stand after the path; false where there is none. In place, as
-// the whole search is.
-pub fn descend<P: Plan>(plan: &P, at: &mut Position, from: u16) -> bool
+// Goes down to the least entry from `from` on that may stand after the path, and answers it; none where there is none.
+pub fn descend<P: Plan>(plan: &P, at: &mut Position, from: u16) -> Option<u16>
     ensures { Descended (P.layout plan.now) from at.old at.new result }
 {
     let Some(e) = next_entry(plan, at.entries(), from) else {
-        return false;
+        return None;
     };
-    at.push(e)
+    at.push(e).then_some(e)
 }

@@ -30,25 +30,24 @@ fn first_below<P: Plan>(plan: &P, at: &Position, steps_back: u16) -> u16
     }
 }
 
-// Moves on to the first route after the path, in lexicographic order. Where there is none the path is empty. A position
-// is a kilobyte that is moved on in place, so the answer is a bool, and no Option that holds a copy.
+// Moves on to the first route after the path, in lexicographic order. Where there is none the path is empty. The
+// route is the position's path, a kilobyte that is moved on in place, so the answer is a bool and no Option with a copy.
 pub fn next_route<P: Plan>(plan: &P, at: &mut Position) -> bool
     ensures { Begun (P.layout plan.now) (path_of at.old) → Found (P.layout plan.now) (path_of at.old) (path_of at.new) result }
 {
     let mut from: u16 = 0;
     let mut steps_back: u16 = 0;
     loop {
-        if descend(plan, at, from) {
-            if is_route(plan, at.entries()) {
-                return true;
+        match descend(plan, at, from) {
+            Some(_) if is_route(plan, at.entries()) => return true,
+            Some(_) => from = first_below(plan, at, steps_back),
+            None => {
+                let Some(e) = at.retreat() else {
+                    return false;
+                };
+                from = e + 1;
+                steps_back = steps_back.saturating_add(1);
             }
-            from = first_below(plan, at, steps_back);
-        } else {
-            let Some(e) = at.retreat() else {
-                return false;
-            };
-            from = e + 1;
-            steps_back = steps_back.saturating_add(1);
         }
     }
 }

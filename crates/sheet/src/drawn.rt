@@ -38,13 +38,14 @@ impl Drawn<'_> {
             .is_some_and(|record| record.kind.has_side(port.side))
     }
 
-    // As the file's, over kinds that the records tell: what both share is `faces`.
     pub(crate) fn is_opposed(&self, port: Port, other: Port) -> bool
         ensures { result ≡ opposed (drawn self.now.records.now) port other }
     {
-        let here = self.kind_of(port.component).faces(port.side);
-        let there = self.kind_of(other.component).faces(other.side);
-        here != there && port.component != other.component
+        port.is_opposed(
+            self.kind_of(port.component),
+            other,
+            self.kind_of(other.component),
+        )
     }
 
     #[tactic(auto, unfolding(crate::specs::Connections::may_connect))]

@@ -1,5 +1,5 @@
 -- What each call promises of the register or the frame, as a note in the journal of the box.
-use Rattle.std.proofs.Common.{◌≡◌, ℕ, ◌+◌, Bool, true, false, List, [], ◌∷◌, ◌++◌, is_ok, IfOk, IfErr, OnOk, OnErr, Some, None, Ok, Err, Result, sym, refl, ap, ◌∙◌, subst}
+use Rattle.std.proofs.Common.{◌≡◌, ℕ, ◌+◌, Bool, true, false, List, [], ◌∷◌, ◌++◌, IfOk, IfErr, OnOk, OnErr, Some, None, Ok, Err, Result, sym, ap, ◌∙◌, subst}
 use Rattle.fault.specs.declared.kinds.BoxFault.{BoxFault}
 use Rattle.plan.specs.declared.parts.Position.{Position}
 use Rattle.plan.specs.Layout.{Layout}
@@ -35,7 +35,7 @@ module _ {P : Type 0} (l : Layout) (j : Journal) (x : SignalBox P) (kept : Kept 
   same_frame : (f : Frame) → f ≡ x.frame → Kept l j (with_frame f)
   same_frame f e = record { book = ap view e ∙ kept.book; handed = kept.handed; safe = kept.safe }
 
-  pub turned : (g : Register P) (s s' : List ℕ) (r : Result ℕ BoxFault) → (is_ok r ≡ false → (g ≡ x.register) × (s' ≡ s))
+  pub turned : (g : Register P) (s s' : List ℕ) (r : Result ℕ BoxFault) → OnErr r ((g ≡ x.register) × (s' ≡ s))
       → ((rows : List (List ℕ)) → register.Handed l rows x.register → register.Turned l rows s s' g r) → Noted l j (Turned s s' r) (with_register g)
   turned g s s' (Ok n) same t =
       let d = t j.rows kept.handed in
@@ -46,8 +46,8 @@ module _ {P : Type 0} (l : Layout) (j : Journal) (x : SignalBox P) (kept : Kept 
   turned g s s' (Err f) same t =
       let H : Register P → Type 0 = λ y. register.Handed l j.rows y in
       record {
-        demanded = (turning_err l j.rows s s' g f (t j.rows kept.handed), (same refl).1);
-        kept = record { book = kept.book; handed = subst H (sym (same refl).0) kept.handed; safe = kept.safe };
+        demanded = (turning_err l j.rows s s' g f (t j.rows kept.handed), same.1);
+        kept = record { book = kept.book; handed = subst H (sym same.0) kept.handed; safe = kept.safe };
       }
 
   pub restarted : (g : Register P) → register.Handed l [] g → Noted l j Restarted (with_register g)

@@ -1,7 +1,8 @@
-ghost use Rattle.std.specs.Prelude.{◌≡◌, ◌+◌, ◌/◌, ◌%◌, ◌<◌, IfOk, OnOk, MatchBool, OnErr};
+ghost use Rattle.std.specs.Prelude.{◌≡◌, ◌+◌, ◌/◌, ◌%◌, ◌<◌, IfOk, OnOk, OnErr};
 ghost use Rattle.arrayvec.specs.ArrayVec.{array_vec_len};
 ghost use Rattle.row.specs.Row.{entries_of};
 ghost use Rattle.row.specs.View.{entries};
+ghost use Rattle.route.specs.Tells.{Tells};
 ghost use Rattle.frame.specs.Book.{opened_with};
 ghost use Rattle.frame.specs.Calls.{Against, LiesOtherwise, OnOccupied, RunsOccupied, Standing, Opening};
 ghost use Rattle.frame.specs.Tests.{refusal};
@@ -77,27 +78,27 @@ impl Frame {
 
     // Whether a switch lies otherwise than an entry of the row has it.
     fn lies_otherwise(&self, row: &[u16]) -> bool
-        ensures { MatchBool result (LiesOtherwise (view self.now) row.now) (LiesOtherwise (view self.now) row.now → ⊥) }
+        ensures { Tells result (LiesOtherwise (view self.now) row.now) }
     {
         row.iter().any(|e| self.is_against(*e))
     }
 
     fn is_against(&self, e: u16) -> bool
-        ensures { MatchBool result (Against ((view self.now).position (e / 4)) (e % 4)) (Against ((view self.now).position (e / 4)) (e % 4) → ⊥) }
+        ensures { Tells result (Against ((view self.now).position (e / 4)) (e % 4)) }
     {
         entry::lie(e).is_some_and(|wanted| wanted != self.lie(entry::component(e)))
     }
 
     // Whether the row runs over an occupied section.
     fn runs_occupied<P: Plan>(&self, plan: &P, row: &[u16]) -> bool
-        ensures { MatchBool result (RunsOccupied (P.layout plan.now) (view self.now) row.now) (RunsOccupied (P.layout plan.now) (view self.now) row.now → ⊥) }
+        ensures { Tells result (RunsOccupied (P.layout plan.now) (view self.now) row.now) }
     {
         row.iter()
             .any(|e| self.is_on_occupied(plan, entry::component(*e)))
     }
 
     fn is_on_occupied<P: Plan>(&self, plan: &P, component: u16) -> bool
-        ensures { MatchBool result (OnOccupied (P.layout plan.now) (view self.now) component) (OnOccupied (P.layout plan.now) (view self.now) component → ⊥) }
+        ensures { Tells result (OnOccupied (P.layout plan.now) (view self.now) component) }
     {
         section_of(plan, component).is_some_and(|section| self.occupied.contains(section))
     }

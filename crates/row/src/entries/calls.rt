@@ -29,7 +29,7 @@ impl Entries {
     }
 
     // Whether there was room and the entry is below 2,048; if not, the list stays as it was. As with the `insert` of a
-    // set, a bool says all: an entry that is not taken in is still the caller's.
+    // `HashSet`, a bool says all: an entry that is not taken in is still the caller's.
     pub fn push(&mut self, e: u16) -> bool
         ensures fits { result ≡ (nat_lt (length (entries self.old)) 512 && nat_lt e 2048) }
         ensures same { result ≡ false → self.new ≡ self.old }

@@ -47,8 +47,8 @@ impl Flood {
         self.mark(plan, way, 4 * component + 2);
     }
 
-    // Whether a signal of the direction is reached; where none is, the flood has gone on from all that it has seen. In
-    // place, as all of the search.
+    // Whether a signal of the direction is reached; where none is, the flood has gone on from all that it has seen. A
+    // question, so a bool; what the flood holds afterwards serves the proof alone.
     fn reaches_signal<P: Plan>(&mut self, plan: &P, way: Direction) -> bool
         ensures { result ≡ false → Settled (P.layout plan.now) way self.old self.new × ((c : ℕ) → has self.new.waiting c ≡ 0) }
     {

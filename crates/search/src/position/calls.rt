@@ -35,8 +35,8 @@ impl Position {
         self.on
     }
 
-    // Goes on to the entry, unless its component is on the path already or there is no place for it. A bool, as a set's
-    // `insert` answers.
+    // Goes on to the entry, unless its component is on the path already or there is no place for it. A bool, as the
+    // `insert` of a `HashSet` answers.
     pub fn push(&mut self, e: u16) -> bool
         ensures { Pushed self.old e self.new result }
     {

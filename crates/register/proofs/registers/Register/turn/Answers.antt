@@ -1,4 +1,4 @@
-use Rattle.std.proofs.Common.{◌≡◌, ℕ, ◌+◌, ◌<◌, true, false, length, Err, sym, refl, ap, ◌∙◌, arith}
+use Rattle.std.proofs.Common.{◌≡◌, ◌+◌, ◌<◌, length, Err, sym, refl, ap, ◌∙◌, arith}
 use Rattle.std.proofs.lemmas.List.{length_push}
 use Rattle.std.proofs.lemmas.Result.{err_from_is_err_and}
 use Rattle.std.proofs.lemmas.Bool.{eqb-false}
@@ -9,9 +9,6 @@ use Rattle.register.proofs.Shapes.{route_entries}
 use Rattle.register.proofs.States.{stands_next, stands_more, turned_short}
 use Rattle.register.proofs.Writing.{not_written, not_touched, written}
 use Rattle.register.proofs.registers.Register.turn.Goals as goal
-
-true_false : true ≡ false → ⊥
-true_false h = let z : ◌≡◌ {A = ℕ} 0 1 = cc in omega arith
 
 pub returns-in_err-length : goal.returns-in_err-length
 returns-in_err-length g c =
@@ -25,7 +22,7 @@ returns-in_err-length g c =
     let p = err_from_is_err_and c.from_residual.result c.from_residual.ensures.1 in
     rw (p.1, p.2) record {
       plan = refl;
-      refused = λ h. (refl, same);
+      refused = (refl, same);
       history = λ rows kept.
           let next = stands_next l rows q kept.stands some in
           let shape = route_entries l (g.P.Plan.lawful c.args.self.now.plan) q next.route in
@@ -42,7 +39,7 @@ returns g c =
     let w = written q c.args.space.now c.in_ok-length.length (c.in_ok-length.ensures.told ∙ ap (λ x. row_told x c.args.space.now) c.entries-2.ensures.value) in
     record {
       plan = refl;
-      refused = λ h. absurd (true_false h);
+      refused = tt;
       history = λ rows kept.
           let next = stands_next l rows q kept.stands some in (
             q,
