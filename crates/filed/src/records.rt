@@ -5,7 +5,8 @@ use crate::filed::FiledPlan;
 use fault::kinds::PlanFault;
 use plan::parts::Kind;
 
-// A component's record: the part of the file that holds it, and its place there.
+// A component's record: the part of the file that holds it, and its place there. A case for each kind, since callers match
+// on it, though all have the same two fields.
 #[derive(Clone, Copy)]
 pub enum Record<'a> {
     Signal { place: usize, bytes: &'a [u8] },

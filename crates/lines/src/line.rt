@@ -2,7 +2,7 @@ ghost use Rattle.std.specs.Prelude.{◌<◌, [], ◌∷◌, ◌++◌};
 ghost use Rattle.lines.specs.Decimal.{decimal};
 ghost use Rattle.lines.specs.Written.{HasRoom, Written};
 
-// A line in the making: what is written next goes to the place `at` of the space.
+// A line in the making: what is written next goes to the place `at` of the space, which is the caller's.
 #[derive(Drop)]
 pub(crate) struct Line<'a> {
     pub(crate) space: &'a mut [u8],

@@ -6,7 +6,7 @@ use plan::interface::Plan;
 use plan::parts::{Direction, Kind, Port, Position, Side};
 use row::entry::{component, lie};
 
-// The numbers from `low` to `high`.
+// The numbers from `low` to `high`. Not std's `RangeInclusive`, which is no Copy and counts as it goes.
 #[derive(Clone, Copy, PartialEq, Eq, Debug)]
 pub struct Range {
     pub low: u16,
@@ -61,7 +61,9 @@ fn beyond<P: Plan>(plan: &P, way: Direction, last: u16) -> Option<Port>
         .unwrap_or(None)
 }
 
-// The entries that may follow the entry `last`, travelling `way`. A blank port stops the path.
+// The entries that may follow the entry `last`, travelling `way`. A blank port stops the path. The entries are made by their
+// number, since a call that makes one of any component could not be total. Plan and direction stay two parameters, here and
+// above: contracts speak of the layout and of the direction, and a struct of both would only be taken apart.
 pub fn onward<P: Plan>(plan: &P, way: Direction, last: u16) -> Option<Range>
     ensures exact { Told (Follows (P.layout plan.now) way last) result }
     ensures small { IfSome result (λ x. x.high < 2048) }

@@ -35,7 +35,7 @@ impl Flood {
         self.waiting.insert(component);
     }
 
-    // Goes on from a component by every way out of it.
+    // Goes on from a component by every way out of it: as its entries, normal and reverse, have it by their numbers.
     fn go_on<P: Plan>(&mut self, plan: &P, way: Direction, component: u16)
         ensures { GoneOn (P.layout plan.now) way component self.old self.new }
     {
