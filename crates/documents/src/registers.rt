@@ -44,7 +44,7 @@ fn append(text: &mut Vec<u8>, line: &[u8], written: Result<usize, BoxFault>) -> 
     Ok(())
 }
 
-// The register of the file as text.
+// The register of the file as text. Each program that shows a register has such a loop, since no call of the library prints.
 fn register_text(rt: &HostRuntime, file: &[u8]) -> anyhow::Result<Vec<u8>> {
     let mut text = Vec::new(rt.alloc());
     let mut register = Register::new(FiledPlan::take(file));

@@ -40,7 +40,8 @@ fn next_length<P: Plan>(
     }
 }
 
-// Prints the rows that remain of a register, whatever its plan is, and the line that ends them.
+// Prints the rows that remain of a register, whatever its plan is, and the line that ends them. Each program that prints a
+// register has such a loop, since no call of the library prints.
 pub fn print_rows<P: Plan>(rt: &HostRuntime, register: &mut Register<P>) -> anyhow::Result<()> {
     let mut space = [0; LONGEST_ROW];
     for count in 0..TURNS {

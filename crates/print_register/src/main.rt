@@ -16,7 +16,8 @@ use row::writing::LONGEST_ROW;
 // One turn more than a register has rows to hand out: the last one is always refused.
 const TURNS: usize = MOST_ROWS as usize + 1;
 
-// Prints the rows of a plan, and the line that ends them.
+// Prints the rows of a plan, and the line that ends them. Each program that prints a register has such a loop: a call of
+// the library that handed lines on would owe a contract of what it hands, and none can say what a program prints.
 fn print_rows(plan: FiledPlan<'_>, output: &mut Output) -> anyhow::Result<()> {
     let mut register = Register::new(plan);
     let mut space = [0; LONGEST_ROW];
