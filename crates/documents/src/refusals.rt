@@ -72,7 +72,7 @@ fn judged(row: &[u8]) -> Result<(), BoxFault> {
 }
 
 fn goes_wrong(row: &[u8], place: usize) -> bool {
-    judged(row) == Err(BoxFault::NoRoute(place))
+    judged(row).is_err_and(|fault| Told::from(fault) == told(Layer::Box, 15, place))
 }
 
 fn hold_judging(tally: &mut Tally<'_>) -> anyhow::Result<()> {

@@ -2,7 +2,7 @@
 
 ghost use Rattle.std.specs.Prelude.{◌≡◌};
 ghost use Rattle.plan.specs.Letters.{direction_at};
-ghost use Rattle.file.specs.Contents.{port_of};
+ghost use Rattle.file.specs.Contents.{side_number, port_code, port_of};
 
 use plan::parts::{Direction, Port, Side};
 
@@ -14,6 +14,24 @@ pub(crate) fn direction_at(letter: u8) -> Direction
     ensures { result ≡ direction_at letter }
 {
     Direction::try_from(letter).unwrap_or(Direction::West)
+}
+
+// The number of a side, by which fields and codes are ordered. A file has it, and a plan has none.
+pub(crate) fn side_number(side: Side) -> usize
+    ensures { result ≡ side_number side }
+{
+    match side {
+        Side::West => 0,
+        Side::East => 1,
+        Side::Branch => 2,
+    }
+}
+
+// The code of a port. A port of any component has one, also where it is greater than what a file stores.
+pub(crate) fn port_code(port: Port) -> usize
+    ensures { result ≡ port_code port }
+{
+    4 * usize::from(port.component) + side_number(port.side)
 }
 
 // The port that has the code, if any can: the code of a blank, 65535, is no port's. No TryFrom, since a code is a u16 as

@@ -1,10 +1,11 @@
 ghost use Rattle.std.specs.Prelude.{◌≡◌};
+ghost use Rattle.plan.specs.Layout.{has_side};
 ghost use Rattle.file.specs.Contents.{switches_at, straights_at, sections_at, end_of, components, place, kind_of, section_of, port_of, field_at, stored, port_in};
 
-use crate::codes::{direction_at, port_of};
+use crate::codes::{direction_at, port_of, side_number};
 use crate::contents::Contents;
 use numbers::{byte_at, number_at};
-use plan::parts::{Kind, Port};
+use plan::parts::{Kind, Port, Side};
 
 // Reads the four counts, each where those before it put it.
 pub fn contents<'a>(bytes: &'a [u8]) -> Contents<'a>
@@ -102,7 +103,7 @@ impl Contents<'_> {
     pub(crate) fn field(&self, port: Port) -> usize
         ensures { result ≡ field_at self.now.bytes.now port }
     {
-        self.place(port.component) + 2 * (port.side as usize)
+        self.place(port.component) + 2 * side_number(port.side)
     }
 
     pub(crate) fn stored(&self, port: Port) -> u16
@@ -114,8 +115,17 @@ impl Contents<'_> {
     pub fn is_port(&self, port: Port) -> bool
         ensures { result ≡ port_in self.now.bytes.now port }
     {
-        usize::from(port.component) < self.components()
-            && self.kind(port.component).has_side(port.side)
+        usize::from(port.component) < self.components() && self.has_side(port)
+    }
+
+    // Whether the port's component has such a side. Only a branch asks for the kind, which is read from the bytes.
+    fn has_side(&self, port: Port) -> bool
+        ensures { result ≡ has_side (kind_of self.now.bytes.now port.component) port.side }
+    {
+        match port.side {
+            Side::West | Side::East => true,
+            Side::Branch => self.kind(port.component).is_switch(),
+        }
     }
 
     // The port that a port's record names, if its code can be a port's.

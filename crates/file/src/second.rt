@@ -1,20 +1,30 @@
 ghost use Rattle.std.specs.Prelude.{◌≡◌};
-ghost use Rattle.plan.specs.Layout.{opposed};
+ghost use Rattle.plan.specs.Layout.{faces, side_faces, opposed};
 ghost use Rattle.file.specs.Checks.{first_failing};
 ghost use Rattle.file.specs.Contents.{layout_of};
 ghost use Rattle.file.specs.Members.{belongs, members};
 ghost use Rattle.file.specs.Readings.{named_checks, blank_check, field_checks, port_checks, switch_checks, component_checks, component_fields, section_fields, section_check, second_reading};
 
-use crate::codes::BLANK;
+use crate::codes::{BLANK, port_code};
 use crate::contents::{Contents, FirstRead};
 use fault::kinds::PlanFault;
 use numbers::number_at;
-use plan::parts::{Port, Side};
+use plan::parts::{Kind, Port, Side};
+
+// A kind with which the port faces as it does. Only which way a branch faces is said by its kind, so only that is read.
+fn facing(file: &Contents, port: Port) -> Kind
+    ensures { side_faces result port.side ≡ faces (layout_of file.now.bytes.now) port }
+{
+    match port.side {
+        Side::West | Side::East => Kind::Straight,
+        Side::Branch => file.kind(port.component),
+    }
+}
 
 fn is_opposed(file: &Contents, port: Port, other: Port) -> bool
     ensures { result ≡ opposed (layout_of file.now.bytes.now) port other }
 {
-    port.is_opposed(file.kind(port.component), other, file.kind(other.component))
+    port.is_opposed(facing(file, port), other, facing(file, other))
 }
 
 // The field of a port, where it names another.
@@ -28,7 +38,7 @@ fn read_named(file: &Contents, port: Port, named: Port) -> Result<(), PlanFault>
     if !is_opposed(file, port, named) {
         return Err(PlanFault::NotOpposed(place));
     }
-    if file.named(named) == Some(port) {
+    if usize::from(file.stored(named)) == port_code(port) {
         Ok(())
     } else {
         Err(PlanFault::NotNamedBack(place))

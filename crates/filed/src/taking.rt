@@ -23,7 +23,7 @@ fn accepted<'a>(bytes: &'a [u8]) -> &'a [u8]
 impl<'a> TryFrom<&'a [u8]> for FiledPlan<'a> {
     type Error = PlanFault;
 
-    ghost try_from_gives = { λ bytes r. MatchResult r (λ plan. (look bytes.now ≡ Ok tt) × (plan.contents.bytes.now ≡ bytes.now)) (λ e. look bytes.now ≡ Err e) };
+    ghost try_from_gives = { λ bytes r. MatchResult r (λ plan. (look bytes.now ≡ Ok tt) × (plan.contents.bytes.now ≡ bytes.now) × Takes bytes.now (layout_of plan.contents.bytes.now)) (λ e. look bytes.now ≡ Err e) };
 
     fn try_from(bytes: &'a [u8]) -> Result<FiledPlan<'a>, PlanFault> {
         look_over(bytes)?;

@@ -3,7 +3,6 @@ ghost use Rattle.frame.specs.Calls.{OnRow, Held, Conflicts};
 ghost use Rattle.frame.specs.View.{open_rows};
 
 use crate::open_route::OpenRoute;
-use row::entry;
 
 // Whether the component is on the row.
 fn is_on(row: &[u16], component: u16) -> bool

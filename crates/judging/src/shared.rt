@@ -4,9 +4,9 @@ ghost use Rattle.row.specs.View.{entries};
 ghost use Rattle.route.specs.Components.{on};
 ghost use Rattle.judging.specs.Shared.{told_shared};
 
+use entry::component;
 use fault::kinds::BoxFault;
 use row::entries::Entries;
-use row::entry::component;
 use row::reading::read_row;
 use sets::set::ComponentSet;
 

@@ -4,10 +4,10 @@ ghost use Rattle.route.specs.Growth.{Begun, May};
 ghost use Rattle.route.specs.Paths.{Starts, Follows, heading};
 ghost use Rattle.judging.specs.Judged.{StartAt, Walked};
 
+use entry::component;
 use plan::interface::Plan;
 use plan::parts::Direction;
 use route::steps::{onward, signal};
-use row::entry::component;
 use sets::set::ComponentSet;
 
 // Whether the entry `e` comes next after `last`, travelling `way`.

@@ -3,7 +3,7 @@ use Rattle.std.proofs.Common.{◌≡◌, ℕ, suc, ◌+◌, ◌*◌, ◌/◌, �
 use mir.Val.{bool_byte}
 use Rattle.plan.specs.declared.parts.Position.{Position}
 use Rattle.plan.specs.declared.parts.Position.TheVariants.{Normal, Reverse}
-use Rattle.row.specs.Lies.{lie_of}
+use Rattle.entry.specs.Lies.{lie_of}
 use Rattle.row.specs.Row.{is_row, entries_of}
 use Rattle.row.proofs.Rows.{entry_at, entry_parts, length_entries, row_parts}
 use Rattle.numbers.specs.Stored.{number}

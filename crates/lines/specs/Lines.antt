@@ -4,7 +4,7 @@ use Rattle.fault.specs.declared.kinds.BoxFault.{BoxFault}
 use Rattle.fault.specs.declared.kinds.BoxFault.TheVariants.{NotARow}
 use Rattle.plan.specs.declared.parts.Position.{Position}
 use Rattle.plan.specs.declared.parts.Position.TheVariants.{Normal, Reverse}
-use Rattle.row.specs.Lies.{component_of, lie_of}
+use Rattle.entry.specs.Lies.{component_of, lie_of}
 use Rattle.row.specs.Put.{text_told, text_left}
 use Rattle.row.specs.Row.{is_row, entries_of}
 use Rattle.lines.specs.Decimal.{decimal}

@@ -6,9 +6,9 @@ ghost use Rattle.lines.specs.Written.{HasRoom, Written};
 
 use crate::digits::digit_count;
 use crate::line::Line;
+use entry::{component, lie};
 use fault::kinds::BoxFault;
 use plan::parts::Position;
-use row::entry::{component, lie};
 use row::shape::{entry_count, is_row, pairs};
 
 // The longest line: 512 components of three digits, each with its letter and a space or the line's end behind it.

@@ -16,12 +16,12 @@ pub enum Kind {
     Straight,
 }
 
-// The ports of a component: the one that faces west, the one that faces east, and a switch's branch. Files number them.
+// The ports of a component: the one that faces west, the one that faces east, and a switch's branch.
 #[derive(Clone, Copy, PartialEq, Eq, Debug)]
 pub enum Side {
-    West = 0,
-    East = 1,
-    Branch = 2,
+    West,
+    East,
+    Branch,
 }
 
 #[derive(Clone, Copy, PartialEq, Eq, Debug)]

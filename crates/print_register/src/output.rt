@@ -1,21 +1,25 @@
 use anyhow::anyhow;
 use lines::closing::Closing;
 use lines::rows::{LONGEST_LINE, write_row_line};
-use std::io::{BufWriter, Stdout, Write};
+use std::io::{Stdout, Write};
 
 // Lines are gathered, and written out once a block of this size is full.
 const BLOCK: usize = 65_536;
 
+// Not std's `BufWriter`: after a write that failed, that one writes what is left once more when it is dropped.
 #[derive(Drop)]
 pub struct Output {
-    stdout: BufWriter<Stdout>,
+    stdout: Stdout,
+    block: Vec<u8>,
     line: [u8; LONGEST_LINE],
 }
 
 impl Output {
+    // The block has room for a line behind what fills it.
     pub fn new(rt: &HostRuntime) -> anyhow::Result<Output> {
         Ok(Output {
-            stdout: BufWriter::with_capacity(rt.alloc(), BLOCK, rt.stdout())?,
+            stdout: rt.stdout(),
+            block: Vec::with_capacity(rt.alloc(), BLOCK + LONGEST_LINE)?,
             line: [0; LONGEST_LINE],
         })
     }
@@ -33,15 +37,24 @@ impl Output {
             return Err(anyhow!("the last line is longer than any"));
         };
         self.print(length)?;
-        self.stdout.flush()?;
-        Ok(())
+        self.flush()
     }
 
     fn print(&mut self, length: usize) -> anyhow::Result<()> {
+        if self.block.len() >= BLOCK {
+            self.flush()?;
+        }
         let Some(text) = self.line.get(0..length) else {
             return Err(anyhow!("a line is longer than its space"));
         };
-        self.stdout.write_all(text)?;
+        self.block.extend_from_slice(text)?;
+        Ok(())
+    }
+
+    // Writes out what was gathered.
+    fn flush(&mut self) -> anyhow::Result<()> {
+        self.stdout.write_all(self.block.as_slice())?;
+        self.block.clear();
         Ok(())
     }
 }

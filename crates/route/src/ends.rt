@@ -3,8 +3,8 @@ ghost use Rattle.route.specs.Growth.{Begun};
 ghost use Rattle.route.specs.Paths.{Ends};
 
 use crate::steps::signal;
+use entry::component;
 use plan::interface::Plan;
-use row::entry::component;
 
 // Whether the path ends as a route does.
 pub fn is_route<P: Plan>(plan: &P, at: &[u16]) -> bool

@@ -2,9 +2,9 @@ ghost use Rattle.std.specs.Prelude.{◌≡◌, ℕ, ◌+◌, ◌*◌, ◌%◌, �
 ghost use Rattle.route.specs.Paths.{leaves_by, exit_of, MayLie, Follows};
 ghost use Rattle.route.specs.Steps.{Exactly, Told, SignalAt};
 
+use entry::{component, lie};
 use plan::interface::Plan;
 use plan::parts::{Direction, Kind, Port, Position, Side};
-use row::entry::{component, lie};
 
 // The numbers from `low` to `high`. Not std's `RangeInclusive`, which is no Copy and counts as it goes.
 #[derive(Clone, Copy, PartialEq, Eq, Debug)]

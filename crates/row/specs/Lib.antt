@@ -3,4 +3,3 @@ pub mod Row
 pub mod View
 pub mod Laws
 pub mod Written
-pub mod Lies

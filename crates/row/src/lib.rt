@@ -2,7 +2,6 @@
 #![tactic(auto)]
 
 pub mod entries;
-pub mod entry;
 pub mod reading;
 pub mod shape;
 pub mod writing;

@@ -109,6 +109,9 @@ module _ (l : Layout) (d : Direction) (k : ℕ) (f g h i : Flood) (low : k < 512
     covers = λ s. covered;
   }
 
+pub settled_start : (l : Layout) (d : Direction) (f : Flood) → Settled l d f f
+settled_start l d f = record { keeps = λ c. omega arith; past = λ c s w. inl (s, w) }
+
 pub settled_more : (l : Layout) (d : Direction) (k : ℕ) (f g h : Flood) → Settled l d f g → GoneOn l d k g h → k < 512 → (k < l.count → l.kind k ≡ Signal d → ⊥) → Settled l d f h
 settled_more l d k f g h settled gone low none = record {
   keeps = λ c. let a = settled.keeps c in let b = gone.keeps c in omega arith;

@@ -4,10 +4,10 @@ ghost use Rattle.route.specs.Paths.{Starts, Follows};
 ghost use Rattle.search.specs.Found.{Least, Descended};
 
 use crate::position::Position;
+use entry::component;
 use plan::interface::Plan;
 use plan::parts::Direction;
 use route::steps::{onward, signal};
-use row::entry::component;
 
 // The first entry of a signal from `from` on.
 fn next_start<P: Plan>(plan: &P, from: u16) -> Option<u16>

@@ -17,7 +17,6 @@ use fault::kinds::BoxFault;
 use judging::judgement::judge;
 use plan::interface::Plan;
 use row::entries::Entries;
-use row::entry;
 use row::reading::read_row;
 
 // How many slips a frame gives.

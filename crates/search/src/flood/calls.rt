@@ -6,10 +6,10 @@ ghost use Rattle.search.specs.View.{path_of};
 
 use super::Flood;
 use crate::position::Position;
+use entry::component;
 use plan::interface::Plan;
 use plan::parts::Direction;
 use route::steps::{onward, signal};
-use row::entry::component;
 use sets::set::ComponentSet;
 
 // Whether the component is a signal of the direction.

@@ -4,9 +4,9 @@ ghost use Rattle.route.specs.Components.{times};
 ghost use Rattle.search.specs.View.{path_of, Pushed, Retreated};
 
 use super::Position;
+use entry::{component, lie};
 use plan::parts;
 use row::entries::Entries;
-use row::entry::{component, lie};
 use sets::set::ComponentSet;
 
 impl Position {

@@ -1,6 +1,6 @@
 use Rattle.std.proofs.Common.{◌/◌, length, is_some, refl, sym, ap, ◌∙◌, arith, length-append}
 use mir.Val.{bool_byte}
-use Rattle.row.specs.Lies.{lie_of}
+use Rattle.entry.specs.Lies.{lie_of}
 use Rattle.lines.specs.Decimal.{decimal}
 use Rattle.lines.specs.Lines.{letter}
 use Rattle.lines.proofs.Shown.{shown_as, letter_count, length_letter}

@@ -1,6 +1,6 @@
 use Rattle.std.proofs.Common.{◌/◌, [], ◌∷◌, length, Some, None, refl, sym, ap, ◌∙◌, append-nil, arith, length-append}
 use Rattle.plan.specs.declared.parts.Position.TheVariants.{Normal, Reverse}
-use Rattle.row.specs.Lies.{lie_of}
+use Rattle.entry.specs.Lies.{lie_of}
 use Rattle.lines.specs.Decimal.{decimal}
 use Rattle.lines.specs.Lines.{letter}
 use Rattle.lines.proofs.Shown.{shown_as}

@@ -1,7 +1,8 @@
-// What an entry of a row says: a component, and how it lies where it is a switch.
+// What an entry of a row says of a plan: a component, and how it lies where it is a switch.
+#![tactic(auto)]
 
 ghost use Rattle.std.specs.Prelude.{◌≡◌};
-ghost use Rattle.row.specs.Lies.{component_of, lie_of};
+ghost use Rattle.entry.specs.Lies.{component_of, lie_of};
 
 use plan::parts::Position;
 
