@@ -2,7 +2,7 @@
 
 ghost use Rattle.std.specs.Prelude.{◌≡◌};
 ghost use Rattle.plan.specs.Letters.{direction_at};
-ghost use Rattle.file.specs.Contents.{side_number, port_code, port_of};
+ghost use Rattle.file.specs.Contents.{side_number, port_of};
 
 use plan::parts::{Direction, Port, Side};
 
@@ -25,13 +25,6 @@ pub(crate) fn side_number(side: Side) -> usize
         Side::East => 1,
         Side::Branch => 2,
     }
-}
-
-// The code of a port. A port of any component has one, also where it is greater than what a file stores.
-pub(crate) fn port_code(port: Port) -> usize
-    ensures { result ≡ port_code port }
-{
-    4 * usize::from(port.component) + side_number(port.side)
 }
 
 // The port that has the code, if any can: the code of a blank, 65535, is no port's. No TryFrom, since a code is a u16 as

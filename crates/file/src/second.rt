@@ -5,7 +5,7 @@ ghost use Rattle.file.specs.Contents.{layout_of};
 ghost use Rattle.file.specs.Members.{belongs, members};
 ghost use Rattle.file.specs.Readings.{named_checks, blank_check, field_checks, port_checks, switch_checks, component_checks, component_fields, section_fields, section_check, second_reading};
 
-use crate::codes::{BLANK, port_code};
+use crate::codes::BLANK;
 use crate::contents::{Contents, FirstRead};
 use fault::kinds::PlanFault;
 use numbers::number_at;
@@ -38,7 +38,7 @@ fn read_named(file: &Contents, port: Port, named: Port) -> Result<(), PlanFault>
     if !is_opposed(file, port, named) {
         return Err(PlanFault::NotOpposed(place));
     }
-    if usize::from(file.stored(named)) == port_code(port) {
+    if file.named(named) == Some(port) {
         Ok(())
     } else {
         Err(PlanFault::NotNamedBack(place))

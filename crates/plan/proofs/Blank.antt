@@ -1,5 +1,5 @@
 -- A blank matches nothing.
-use Rattle.std.proofs.Common.{◌≡◌, ℕ, Bool, true, false, ◌&&◌, Some, None, Ok, Option, Result, ap, arith}
+use Rattle.std.proofs.Common.{◌≡◌, ℕ, Bool, true, false, ◌&&◌, Some, None, Ok, Option, Result, ap, ◌∙◌, arith}
 use Rattle.fault.specs.declared.kinds.PlanFault.{PlanFault}
 use Rattle.plan.specs.declared.parts.Port.{Port}
 use Rattle.plan.specs.Layout.{told, is_port, leads_to, told_connected}
@@ -25,8 +25,8 @@ blanks_match_nothing l w a b =
       (λ h k. no_lead (l.far a) b h (names k)),
     )
 
--- what two ports tell of their connection
-pub connected_is : (a b : Bool) (f g o h : Option Port) (p : Port) → ◌≡◌ {A = Result (Option Port) PlanFault} (Ok f) (told a g) → ◌≡◌ {A = Result (Option Port) PlanFault} (Ok o) (told b h) → ◌≡◌ {A = Result Bool PlanFault} (Ok (leads_to f p)) (told (a && b) (leads_to g p))
-connected_is true true f g o h p d e = let z : f ≡ g = cc in ap (λ x. Ok (leads_to x p)) z
-connected_is true false f g o h p d e = cc
-connected_is false b f g o h p d e = cc
+-- what two ports tell of their connection, of whatever form the answer is
+pub connected_is : (a b : Bool) (f g o h : Option Port) (p : Port) (r : Bool) → ◌≡◌ {A = Result (Option Port) PlanFault} (Ok f) (told a g) → ◌≡◌ {A = Result (Option Port) PlanFault} (Ok o) (told b h) → r ≡ leads_to f p → ◌≡◌ {A = Result Bool PlanFault} (Ok r) (told (a && b) (leads_to g p))
+connected_is true true f g o h p r d e k = let z : f ≡ g = cc in ap Ok k ∙ ap (λ x. Ok (leads_to x p)) z
+connected_is true false f g o h p r d e k = cc
+connected_is false b f g o h p r d e k = cc

@@ -5,7 +5,7 @@ ghost use Rattle.row.specs.Row.{entry_ok, is_entries, is_row, numbers_from};
 use numbers::number_at;
 
 // Whether a row can hold the entry: a component below 512, and how a switch lies. By the number, since
-// `lie` has no word for what leaves 3, divided by 4.
+// no position stands for what leaves 3, divided by 4.
 fn is_entry(e: u16) -> bool
     ensures { result ≡ entry_ok e }
 {

@@ -3,8 +3,9 @@ ghost use Rattle.sheet.specs.Records.{at, section_stands};
 
 use crate::component::Component;
 
-// The first `count` of the lent records are the components of the sheet; the space is the caller's, so no Vec keeps the count. That the lent space stays the same is about the
-// sheet before and after a call, so each call that draws says it anew.
+// The first `count` of the lent records are the components of the sheet; the space is the caller's, so no Vec keeps
+// the count. That the lent space stays the same is about the sheet before and after a call, so each call that draws
+// says it anew.
 #[derive(Drop)]
 pub struct Sheet<'a> {
     pub(crate) records: &'a mut [Component],

@@ -1,4 +1,4 @@
-use Rattle.std.proofs.Common.{Ok, ap, ◌∙◌, rules}
+use Rattle.std.proofs.Common.{rules}
 use Rattle.plan.proofs.Blank.{blanks_match_nothing, connected_is}
 use Rattle.plan.proofs.Ports.{far_equal}
 use Rattle.plan.proofs.connection.connected.Goals as goal
@@ -11,8 +11,6 @@ returns-in_err-far-2 g c = record { told = search rules; blanks = blanks_match_n
 
 pub returns : goal.returns
 returns g c = record {
-  told =
-      ap Ok (c.eq.ensures ∙ far_equal c.in_ok-far.far c.args.b)
-      ∙ connected_is _ _ _ _ _ _ c.args.b c.in_ok-far.ensures c.in_ok-far-2.ensures;
+  told = connected_is _ _ _ _ _ _ c.args.b _ c.in_ok-far.ensures c.in_ok-far-2.ensures (search (rules, far_equal));
   blanks = blanks_match_nothing;
 }

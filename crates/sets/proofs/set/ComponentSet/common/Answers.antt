@@ -39,4 +39,5 @@ unfolding has
 returns c =
     let end = zip_end c.args.self.now.words c.args.other.now.words _ _ _ c.next.new.self _ (search rules) (search rules) c.loop-word.yielded_by c.in-None.is c.next.ensures.steps in
     let e : length c.loop-word.yielded * 64 ≡ 512 = omega arith in
-    c.loop-word.invariant ∙ ap (sum_below (both c.args.self.now.words c.args.other.now.words)) e
+    let all = c.loop-word.invariant ∙ ap (sum_below (both c.args.self.now.words c.args.other.now.words)) e in
+    search (rules, all)
