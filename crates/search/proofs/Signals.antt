@@ -17,9 +17,9 @@ no_signal l c None told h = told
 no_signal l c (Some d) told h = cc
 
 -- no signal from the component `c` on, which is the first whose entry is not below `from`
-pub no_start : (l : Layout) (from c : ℕ) → 4 * c < from + 4 → ((k : ℕ) → c ≤ k → k < l.count → k < l.count → IsSignal (l.kind k) → ⊥) → (e : ℕ) → Starts l e → e < from
-no_start l from c least none e s =
-    ⊎_elim (λ h. h) (λ (h : from ≤ e). absurd (none (e / 4) (let m = s.0 in omega arith) s.1 s.1 s.2)) (cases_lt e from)
+pub no_start : (l : Layout) (from c n : ℕ) → 4 * c < from + 4 → l.count ≤ n → ((k : ℕ) → c ≤ k → k < n → k < l.count → IsSignal (l.kind k) → ⊥) → (e : ℕ) → Starts l e → e < from
+no_start l from c n least all none e s =
+    ⊎_elim (λ h. h) (λ (h : from ≤ e). absurd (none (e / 4) (let m = s.0 in omega arith) (let m = s.1 in omega arith) s.1 s.2)) (cases_lt e from)
 
 pub first_start : (l : Layout) (from c i : ℕ) → 4 * c < from + 4 → from ≤ 4 * c → (c ≤ i) × (i < l.count) × IsSignal (l.kind i) × ((k : ℕ) → c ≤ k → k < i → k < l.count → IsSignal (l.kind k) → ⊥) → Least (Starts l) from (Some (4 * i))
 first_start l from c i least enough found =

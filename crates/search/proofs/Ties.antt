@@ -28,10 +28,10 @@ tied_more s s' q q' e tied out low pushed inserted c =
     omega arith)
     (cases_eq c (e / 4))
 
-pub tied_less : (s s' : ComponentSet) (q q' : List ℕ) (e : ℕ) → Tied s q → q ≡ q' ++ e ∷ [] → ((c : ℕ) → has s' c ≡ left s (e / 4) c) → Tied s' q'
-tied_less s s' q q' e tied popped removed c =
+pub tied_less : (s s' : ComponentSet) (q q' : List ℕ) (e k : ℕ) → Tied s q → q ≡ q' ++ e ∷ [] → ((c : ℕ) → has s' c ≡ left s k c) → k ≡ e / 4 → Tied s' q'
+tied_less s s' q q' e k tied popped removed its c =
     let t = ap (times c) popped ∙ times_push c e q' in
-    let r = removed c in
+    let r = removed c ∙ ap (λ n. left s n c) its in
     let w = tied c in
     ⊎_elim
     (λ (h : c ≡ e / 4).

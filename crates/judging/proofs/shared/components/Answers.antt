@@ -10,4 +10,4 @@ pub loop-e-preserved : goal.loop-e-preserved
 loop-e-preserved c =
     let i = c.loop-e.e-index in
     let small = c.as_slice-all.ensures.small i (omega arith) in
-    gathers_more c.loop-e.set c.insert.new.self c.as_slice-all.result.now i c.loop-e.invariant (omega arith) (omega arith) (λ k. c.insert.ensures k ∙ ap (λ n. joined c.loop-e.set n k) c.component.ensures)
+    gathers_more c.loop-e.set c.insert.new.self c.as_slice-all.result.now i c.loop-e.invariant (omega arith) (omega arith) (λ k. c.insert.ensures k ∙ ap (λ n. joined c.loop-e.set n k) (omega arith))

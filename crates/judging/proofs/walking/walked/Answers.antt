@@ -39,7 +39,7 @@ returns-then-not-follows g c =
                 w.if-not-follows.ensures (step_out l (g.P.Plan.lawful c.args.plan.now) es c.in-Some-start.way way i h c.loop-i.last _ c.loop-i.invariant.1 next m.0)
             | then-not-follows-via-else-not-follows+then-contains w ↦
                 gathers_old c.loop-i.seen (take (i + 1) es) (get_or es (i + 1) 0) c.loop-i.invariant.0.1
-                (ap (has c.loop-i.seen) (sym (w.component-else-not-follows.ensures ∙ ap (λ e. e / 4) next)) ∙ eqb-true _ 1 (sym w.if-contains.ensures)) m.1
+                (ap (has c.loop-i.seen) (omega arith) ∙ eqb-true _ 1 (sym w.if-contains.ensures)) m.1
           ];
     }
 
@@ -52,7 +52,7 @@ loop-i-preserved g c =
     let way = ap (λ e. l.kind (e / 4)) (ap (λ x. get_or x 0 0) split.0) ∙ c.in-Some-start.ensures.1 in
     let next = behind es c.in-Some.rest.now c.in-Some.first.now i split.0 in
     let new : eqb (has c.loop-i.seen (get_or es (i + 1) 0 / 4)) 1 ≡ false =
-    ap (λ n. eqb (has c.loop-i.seen n) 1) (sym (c.component-else-not-follows.ensures ∙ ap (λ e. e / 4) next)) ∙ sym c.if-contains.ensures in (
+    ap (λ n. eqb (has c.loop-i.seen n) 1) (omega arith) ∙ sym c.if-contains.ensures in (
       kept_more l (g.P.Plan.lawful c.args.plan.now) es (i + 1) c.loop-i.seen c.insert-in-loop-i.new.self c.loop-i.invariant.0 (omega arith) (
         step_in l (g.P.Plan.lawful c.args.plan.now) es c.in-Some-start.way way i (omega arith) c.loop-i.last _ c.loop-i.invariant.1 next c.if-not-follows.ensures,
         gathers_new c.loop-i.seen (take (i + 1) es) (get_or es (i + 1) 0) c.loop-i.invariant.0.1 new,

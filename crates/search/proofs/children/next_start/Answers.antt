@@ -14,19 +14,16 @@ Finds l c n o =
 pub returns-in_default : goal.returns-in_default
 returns-in_default g c =
     let l = g.P.Plan.layout c.args.plan.now in
-    let first : Finds l c.div_ceil.result c.count.result c.find.result =
+    let first : Finds l _ _ c.find.result =
     first_from_Range _ _ _ c.find.result (λ k. IsSignal (l.kind k)) (λ k. k < l.count → IsSignal (l.kind k) → ⊥) c.find.ensures.ran
     (λ k q h. search (rules, some_signal)) (λ k q h. search (rules, no_signal)) in
-    let F : Option ℕ → Type 0 = λ o. Finds l c.div_ceil.result c.count.result o in
-    let N : ℕ → Type 0 = λ n. (k : ℕ) → c.div_ceil.result ≤ k → k < n → k < l.count → IsSignal (l.kind k) → ⊥ in
-    no_start l c.args.from c.div_ceil.result (omega arith) (subst N c.count.ensures (subst F c.in_default.is first))
+    no_start l c.args.from _ _ (omega arith) (omega arith) (subst (Finds l _ _) c.in_default.is first)
 
 pub returns : goal.returns
 returns g c =
     let l = g.P.Plan.layout c.args.plan.now in
-    let first : Finds l c.div_ceil.result c.count.result c.find.result =
+    let first : Finds l _ _ c.find.result =
     first_from_Range _ _ _ c.find.result (λ k. IsSignal (l.kind k)) (λ k. k < l.count → IsSignal (l.kind k) → ⊥) c.find.ensures.ran
     (λ k q h. search (rules, some_signal)) (λ k q h. search (rules, no_signal)) in
-    let F : Option ℕ → Type 0 = λ o. Finds l c.div_ceil.result c.count.result o in
-    let found = subst F c.in-Some.is first in
-    first_start l c.args.from c.div_ceil.result c.in-Some.component (omega arith) (omega arith) (found.0, omega arith, found.2, found.3)
+    let found = subst (Finds l _ _) c.in-Some.is first in
+    first_start l c.args.from _ c.in-Some.component (omega arith) (omega arith) (found.0, omega arith, found.2, found.3)

@@ -1,4 +1,4 @@
-use Rattle.std.proofs.Common.{ap, ◌∙◌}
+use Rattle.std.proofs.Common.{arith}
 use Rattle.row.specs.View.{entries}
 use Rattle.sets.specs.Members.{left}
 use Rattle.search.proofs.Ties.{tied_less}
@@ -9,6 +9,6 @@ invariant_of-self-2 c =
     let s = c.args.self.now in
     record {
       tied =
-          tied_less s.on c.remove.new.self (entries s.path) (entries c.pop.new.self) c.in-Some.e s.tied c.in-Some.ensures
-          (λ k. c.remove.ensures k ∙ ap (λ n. left s.on n k) c.component.ensures);
+          tied_less s.on c.remove.new.self (entries s.path) (entries c.pop.new.self) c.in-Some.e _ s.tied c.in-Some.ensures c.remove.ensures
+          (omega arith);
     }

@@ -1,10 +1,14 @@
-use Rattle.std.proofs.Common.{◌<◌, ◌≤◌, ⊎_elim, arith}
+use Rattle.std.proofs.Common.{◌<◌, ◌≤◌, ap, ◌∙◌, ⊎_elim, arith}
 use Rattle.std.proofs.lemmas.Bool.{cases_lt}
+use Rattle.sets.specs.Members.{has}
 use Rattle.sets.proofs.Membership.{first_in_word, word_none, below_words, has_past}
 use Rattle.sets.proofs.set.ComponentSet.first.Goals as goal
 
 pub returns-then-word-ne0 : goal.returns-then-word-ne0
-returns-then-word-ne0 c = first_in_word c.args.self.now c.loop-i.i (omega arith) (omega arith) (omega arith) c.loop-i.invariant
+returns-then-word-ne0 c =
+    let s = c.args.self.now in
+    let first = first_in_word s c.loop-i.i (omega arith) (omega arith) (omega arith) c.loop-i.invariant in
+    (omega arith, ap (has s) (omega arith) ∙ first.1, λ k h. first.2 k (omega arith))
 
 pub loop-i-preserved : goal.loop-i-preserved
 loop-i-preserved c =
