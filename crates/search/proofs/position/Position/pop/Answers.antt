@@ -1,6 +1,5 @@
 use Rattle.std.proofs.Common.{arith}
 use Rattle.row.specs.View.{entries}
-use Rattle.sets.specs.Members.{left}
 use Rattle.search.proofs.Ties.{tied_less}
 use Rattle.search.proofs.position.Position.pop.Goals as goal
 
