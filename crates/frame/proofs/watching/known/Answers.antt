@@ -1,7 +1,8 @@
+use Rattle.std.proofs.Common.{rules}
 use Rattle.frame.proofs.Watched.{section_small}
 use Rattle.frame.proofs.watching.known.Goals as goal
 
 pub returns-clause-small : goal.returns-clause-small
 returns-clause-small g c =
     let p = c.args.plan.now in
-    section_small (g.P.Plan.layout p) (g.P.Plan.lawful p) c.args.section c.if-not-is_section.ensures
+    search (rules, section_small (g.P.Plan.layout p) (g.P.Plan.lawful p))
